@@ -28,6 +28,12 @@ module _ {F : Type 0} where
   then-either (Ok u) s x e = inr (refl, e)
   then-either (Err y) s x e = inl e
 
+  pub check-held : (b : Bool) (x : F) → b ≡ true → check b x ≡ accepted
+  check-held b x e = ap (λ (t : Bool). check t x) e
+
+  pub check-failed : (b : Bool) (x : F) → b ≡ false → check b x ≡ Err x
+  check-failed b x e = ap (λ (t : Bool). check t x) e
+
   pub check-true : (b : Bool) (x : F) → check b x ≡ accepted → b ≡ true
   check-true true x e = refl
   check-true false x e = let z : _≡_ {A = ℕ} 0 1 = cc in absurd (omega arith)
@@ -54,6 +60,22 @@ module _ {F : Type 0} where
 
     pub ends : (k n : ℕ) → n ≤ k → each-from f k (n - k) ≡ accepted
     ends k n h = let none : n - k ≡ 0 = omega arith in ap (λ (y : ℕ). each-from f k y) none
+
+    -- what is left from k on judges as the whole does: the invariant of such a loop, its start, its step and its two ends
+    abbrev pub Left : ℕ → ℕ → Type 0
+    Left n k = each-from f 0 n ≡ each-from f k (n - k)
+
+    pub left-start : (n : ℕ) → Left n 0
+    left-start n = let whole : n ≡ n - 0 = omega arith in ap (λ (y : ℕ). each-from f 0 y) whole
+
+    pub left-more : (n k : ℕ) → k < n → f k ≡ accepted → Left n k → Left n (k + 1)
+    left-more n k h e inv = inv ∙ goes-on k n h e
+
+    pub left-stop : (n k : ℕ) (x : F) → k < n → f k ≡ Err x → Left n k → each-from f 0 n ≡ Err x
+    left-stop n k x h e inv = inv ∙ stops k n x h e
+
+    pub left-end : (n k : ℕ) → n ≤ k → Left n k → each-from f 0 n ≡ accepted
+    left-end n k h inv = inv ∙ ends k n h
 
     -- all were accepted
     pub from-all : (k n : ℕ) → each-from f k n ≡ accepted → (i : ℕ) → k ≤ i → i < k + n → f i ≡ accepted
@@ -88,3 +110,50 @@ module _ {F : Type 0} where
             at j l h rest (inl q) = subst (λ (y : ℕ). f y ≡ accepted) q (past .0)
             at j l h rest (inr (inl q)) = rest j q h
             at j l h rest (inr (inr q)) = absurd (omega arith)
+
+-- a test at each number below n
+module _ {F : Type 0} (test : ℕ → Bool) (fault : ℕ → F) (n : ℕ) where
+  abbrev pub tested : Judgement F
+  tested = each-from (λ a. check (test a) (fault a)) 0 n
+
+  pub tested-all : tested ≡ accepted → (a : ℕ) → a < n → test a ≡ true
+  tested-all e a h = check-true (test a) (fault a) (from-all (λ a. check (test a) (fault a)) 0 n e a (omega arith) (omega arith))
+
+  pub all-tested : ((a : ℕ) → a < n → test a ≡ true) → tested ≡ accepted
+  all-tested all = all-from (λ a. check (test a) (fault a)) 0 n (λ a l h. check-held (test a) (fault a) (all a (omega arith)))
+
+  -- the smallest number that fails
+  abbrev pub Smallest : F → Type 0
+  Smallest x = (a : ℕ) × (a < n) × (test a ≡ false) × (fault a ≡ x) × ((b : ℕ) → b < a → test b ≡ true)
+
+  pub tested-first : (x : F) → tested ≡ Err x → Smallest x
+  tested-first x e =
+      let w = from-first (λ a. check (test a) (fault a)) 0 n x e in
+      let f = check-false (test (w .0)) (fault (w .0)) x (w .3) in
+      (w .0, omega (arith, w .2), f .0, f .1, λ b h. check-true (test b) (fault b) (w .4 b (omega arith) h))
+
+-- a test at each two numbers below n
+module _ {F : Type 0} (test : ℕ → ℕ → Bool) (fault : ℕ → ℕ → F) (n : ℕ) where
+  abbrev pub tested-pairs : Judgement F
+  tested-pairs = each-from (λ a. tested (test a) (fault a) n) 0 n
+
+  pub pairs-all : tested-pairs ≡ accepted → (a b : ℕ) → a < n → b < n → test a b ≡ true
+  pairs-all e a b h k =
+      tested-all (test a) (fault a) n (from-all (λ a. tested (test a) (fault a) n) 0 n e a (omega arith) (omega arith)) b k
+
+  pub all-pairs : ((a b : ℕ) → a < n → b < n → test a b ≡ true) → tested-pairs ≡ accepted
+  all-pairs all =
+      all-from (λ a. tested (test a) (fault a) n) 0 n (λ a l h. all-tested (test a) (fault a) n (λ b k. all a b (omega arith) k))
+
+  -- the smallest pair that fails, by its first number and then by its second
+  abbrev pub Smallest-pair : F → Type 0
+  Smallest-pair x =
+      (a : ℕ) × (b : ℕ) × (a < n) × (b < n) × (test a b ≡ false) × (fault a b ≡ x)
+      × ((c d : ℕ) → c < a → d < n → test c d ≡ true) × ((d : ℕ) → d < b → test a d ≡ true)
+
+  pub pairs-first : (x : F) → tested-pairs ≡ Err x → Smallest-pair x
+  pairs-first x e =
+      let w = from-first (λ a. tested (test a) (fault a) n) 0 n x e in
+      let v = tested-first (test (w .0)) (fault (w .0)) n x (w .3) in
+      (w .0, v .0, omega (arith, w .2), v .1, v .2, v .3,
+      (λ c d h k. tested-all (test c) (fault c) n (w .4 c (omega arith) h) d k), v .4)

@@ -1,0 +1,4 @@
+pub mod Found
+pub mod Listings
+pub mod Connections
+pub mod Certified
