@@ -1,0 +1,3 @@
+pub mod Graded
+pub mod GradedSets
+pub mod GradedOrder
