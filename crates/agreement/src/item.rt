@@ -1,5 +1,5 @@
 ghost use mathlib.Core.Path.{_≡_};
-ghost use Rattle.agreement.specs.Roles.{role-of};
+ghost use Rattle.agreement.specs.Roles.{role-of, role-word};
 
 // What an item is for: a working item of its house, or one that takes values from, or gives them to, the other house.
 #[derive(Clone, Copy)]
@@ -19,6 +19,16 @@ impl Role {
             1 => Some(Role::Import),
             2 => Some(Role::Export),
             _ => None,
+        }
+    }
+
+    pub fn word(self) -> &'static str
+        ensures { λ r. ⌜ now r ≡ role-word self ⌝ }
+    {
+        match self {
+            Role::Working => "working",
+            Role::Import => "import",
+            Role::Export => "export",
         }
     }
 }

@@ -1,12 +1,33 @@
 // What a refusal says: its number, the side that it is about, and two numbers that name the place.
 ghost use mathlib.Core.Path.{_≡_};
-ghost use Rattle.refusal.specs.Sides.{side-number};
+ghost use Rattle.refusal.specs.Sides.{other, side-number, side-word};
 
 // One of the two houses that an agreement joins.
 #[derive(Clone, Copy, PartialEq, Eq, Debug)]
 pub enum Side {
     Near,
     Far,
+}
+
+impl Side {
+    pub fn word(self) -> &'static str
+        ensures { λ r. ⌜ now r ≡ side-word self ⌝ }
+    {
+        match self {
+            Side::Near => "near",
+            Side::Far => "far",
+        }
+    }
+
+    // The other side.
+    pub fn other(self) -> Side
+        ensures { λ r. ⌜ r ≡ other self ⌝ }
+    {
+        match self {
+            Side::Near => Side::Far,
+            Side::Far => Side::Near,
+        }
+    }
 }
 
 // A refusal as the rules number it. It has no side where it is about neither house, or about one that stands alone.
