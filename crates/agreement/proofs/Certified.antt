@@ -43,8 +43,8 @@ module _ (n : ℕ) (test : ℕ → Bool) (P : ℕ → Type 0) (fault : ℕ → B
     kept = λ e a h. decides a h .0 (tested-all test fault n e a h);
     accepts = λ all. all-tested test fault n (λ a h. decides a h .1 (all a h));
     broken = λ b e.
-      let w = tested-first test fault n b e in
-      (w .0, w .1, (λ p. both-ways (test (w .0)) (w .2) (decides (w .0) (w .1) .1 p)), w .3, λ c h. decides c (omega (arith, w .1)) .0 (w .4 c h));
+        let w = tested-first test fault n b e in
+        (w .0, w .1, (λ p. both-ways (test (w .0)) (w .2) (decides (w .0) (w .1) .1 p)), w .3, λ c h. decides c (omega (arith, w .1)) .0 (w .4 c h));
   }
 
 -- the same after a test of the whole
@@ -67,9 +67,16 @@ module _ (n : ℕ) (test : ℕ → ℕ → Bool) (P : ℕ → ℕ → Type 0) (f
     kept = λ e a b h k. decides a b h k .0 (pairs-all test fault n e a b h k);
     accepts = λ all. all-pairs test fault n (λ a b h k. decides a b h k .1 (all a b h k));
     broken = λ x e.
-      let w = pairs-first test fault n x e in
-      (w .0, w .1, w .2, w .3, (λ p. both-ways (test (w .0) (w .1)) (w .4) (decides (w .0) (w .1) (w .2) (w .3) .1 p)), w .5,
-      (λ c d h k. decides c d (omega (arith, w .2)) k .0 (w .6 c d h k)), λ d h. decides (w .0) d (w .2) (omega (arith, w .3)) .0 (w .7 d h));
+        let w = pairs-first test fault n x e in (
+          w .0,
+          w .1,
+          w .2,
+          w .3,
+          (λ p. both-ways (test (w .0) (w .1)) (w .4) (decides (w .0) (w .1) (w .2) (w .3) .1 p)),
+          w .5,
+          (λ c d h k. decides c d (omega (arith, w .2)) k .0 (w .6 c d h k)),
+          λ d h. decides (w .0) d (w .2) (omega (arith, w .3)) .0 (w .7 d h),
+        );
   }
 
 -- the same judgement, by another wording of the rule
@@ -124,12 +131,15 @@ module _ (P Q : PartialOrder) (m w : List ℕ) where
       where
         label-test : Bool → Bool
         label-test b = cond b (ltb (x .label) (P .count)) (is-settled P Q m w (x .label))
+
         there : leb (x .role) 2 ≡ true → (b : Bool) → eqb (x .role) 0 ≡ b → label-test b ≡ true → Lawful P m w x
         there r true e h = record { role = leb-true (x .role) 2 r; label = ltb-true (x .label) (P .count) h; settled = λ other-role. absurd (other-role (eqb-true (x .role) 0 e)) }
         there r false e h = let s = settled-parts P Q m w (x .label) h in record { role = leb-true (x .role) 2 r; label = s .0; settled = λ _. s .1 }
+
         tested-by : (b : Bool) → eqb (x .role) 0 ≡ b → Lawful P m w x → label-test b ≡ true
         tested-by true e l = lt-ltb (x .label) (P .count) (l .label)
         tested-by false e l = settled-total P Q m w t u (x .label) (l .label) ∙ eq-eqb (at w (at m (x .label))) (x .label) (l .settled (eqb-false (x .role) 0 e))
+
         back : Lawful P m w x → lawful-item P Q m w x ≡ true
         back l = and-from (leb (x .role) 2) (label-test (eqb (x .role) 0)) (le-leb (x .role) 2 (l .role)) (tested-by (eqb (x .role) 0) refl l)
 

@@ -61,6 +61,7 @@ settled-parts P Q m w a e = across (image-of P Q m a) refl e
         let out = image-some P Q m a x i in
         let back = image-some Q P w x y q in
         (out .0, ap (at w) (out .1) ∙ back .1 ∙ eqb-true y a t)
+
     across : (o : Option ℕ) → image-of P Q m a ≡ o → related eqb (and-then o (image-of Q P w)) (Some a) ≡ true → (a < P .count) × Settled m w a
     across None q t = absurd (both-ways false refl t)
     across (Some x) q t = and-back x q (image-of Q P w x) refl t

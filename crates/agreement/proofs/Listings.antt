@@ -48,9 +48,11 @@ module _ (P : PartialOrder) (highest : ℕ) where
       sound-at : (j : ℕ) → j < length (k ∷ is) → (i : ℕ) × (i < length (x ∷ xs)) × (getD (k ∷ is) j 0 ≡ k + i) × (up (getD (x ∷ xs) i no-item) ≡ true)
       sound-at zero h = (0, omega arith, omega arith, flow)
       sound-at (suc j) h = let w = f .sound j (omega arith) in (suc (w .0), omega (arith, w .1), omega (arith, w .2), w .3)
+
       at : (i : ℕ) → i < length (x ∷ xs) → up (getD (x ∷ xs) i no-item) ≡ true → (j : ℕ) × (j < length (k ∷ is)) × (getD (k ∷ is) j 0 ≡ k + i)
       at zero h e = (0, omega arith, omega arith)
       at (suc i) h e = let w = f .complete i (omega arith) e in (suc (w .0), omega (arith, w .1), omega (arith, w .2))
+
       rising : (j : ℕ) → suc j < length (k ∷ is) → getD (k ∷ is) j 0 < getD (k ∷ is) (suc j) 0
       rising zero h = let w = f .sound 0 (omega arith) in omega (arith, w .2)
       rising (suc j) h = f .ascending j (omega arith)
@@ -68,7 +70,7 @@ module _ (P : PartialOrder) (highest : ℕ) where
       let f = listed-from xs 0 in
       record {
         sound = λ j h. let w = f .sound j h in let e : w .0 ≡ getD (listed P highest 0 xs) j 0 = omega (arith, w .2) in
-          (omega (arith, w .1), subst (λ (i : ℕ). up (getD xs i no-item) ≡ true) e (w .3));
+            (omega (arith, w .1), subst (λ (i : ℕ). up (getD xs i no-item) ≡ true) e (w .3));
         complete = λ i h e. let w = f .complete i h e in (w .0, w .1, omega (arith, w .2));
         ascending = f .ascending;
       }

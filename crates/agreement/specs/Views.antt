@@ -25,7 +25,7 @@ view-at Far own across = record { near = across; far = own }
 abbrev pub view-in : Joint → Side → ℕ → Option View
 view-in J s c =
     and-then (image-of (J .order s) (J .order (other s)) (J .map s) c) (λ across.
-      and-then (image-of (J .order (other s)) (J .order s) (J .map (other s)) across) (λ own. Some (view-at s own across)))
+    and-then (image-of (J .order (other s)) (J .order s) (J .map (other s)) across) (λ own. Some (view-at s own across)))
 
 -- the items whose label flows to the highest, by number, counted from k
 abbrev pub listed : PartialOrder → ℕ → ℕ → List Item → List ℕ

@@ -48,12 +48,19 @@ fn judge<N: Order, F: Order>(near: &N, far: &F, agreement: &Agreement<'_>) -> Re
     at(Side::Far, rising(far, near, back, out))?;
     at(Side::Near, stable(near, far, out, back))?;
     at(Side::Far, stable(far, near, back, out))?;
-    at(Side::Near, lawful(near, far, out, back, agreement.near_items))?;
+    at(
+        Side::Near,
+        lawful(near, far, out, back, agreement.near_items),
+    )?;
     at(Side::Far, lawful(far, near, back, out, agreement.far_items))
 }
 
 // Accepts exactly a Lagois connection with lawful items, and else names the first broken case.
-pub fn certify<N: Order, F: Order>(near: &N, far: &F, agreement: &Agreement<'_>) -> Result<(), Fault>
+pub fn certify<N: Order, F: Order>(
+    near: &N,
+    far: &F,
+    agreement: &Agreement<'_>,
+) -> Result<(), Fault>
     ensures verdict { λ r. ⌜ r ≡ certified (agreed (N·Order .meaning (now (near .entry))) (F·Order .meaning (now (far .entry))) (now (agreement .entry))) ⌝ }
     ensures exact { λ r. ⌜ Decides (isOk r) (Holds (agreed (N·Order .meaning (now (near .entry))) (F·Order .meaning (now (far .entry))) (now (agreement .entry)))) ⌝ }
     ensures first { λ r. ⌜ refused r (First-broken (agreed (N·Order .meaning (now (near .entry))) (F·Order .meaning (now (far .entry))) (now (agreement .entry))) rules) ⌝ }

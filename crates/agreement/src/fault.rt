@@ -30,14 +30,19 @@ impl Broken {
     {
         let (number, p, q) = match *self {
             Broken::Length => (7, 64, 0),
-            Broken::Entry { label, entry } => (7, label, entry),
-            Broken::NotMonotone { a, b } => (8, a, b),
-            Broken::Falls { label } => (9, label, 0),
-            Broken::Drifts { label } => (10, label, 0),
+            Broken::Entry { label, entry } => (7, u128::from(label), entry),
+            Broken::NotMonotone { a, b } => (8, u128::from(a), b),
+            Broken::Falls { label } => (9, u128::from(label), 0),
+            Broken::Drifts { label } => (10, u128::from(label), 0),
             Broken::TooMany => (11, 128, 0),
-            Broken::Unlawful { item, label } => (11, item, label),
+            Broken::Unlawful { item, label } => (11, u128::from(item), label),
         };
-        Refusal { number, side: None, p, q }
+        Refusal {
+            number,
+            side: None,
+            p,
+            q,
+        }
     }
 }
 
@@ -52,6 +57,9 @@ impl Fault {
     pub fn refusal(&self) -> Refusal
         ensures { λ r. ⌜ r ≡ fault-refusal (now (self .entry)) ⌝ }
     {
-        Refusal { side: Some(self.side), ..self.broken.refusal() }
+        Refusal {
+            side: Some(self.side),
+            ..self.broken.refusal()
+        }
     }
 }

@@ -11,11 +11,21 @@ pub fn image<P: Order, Q: Order>(from: &P, to: &Q, map: &[u64], label: u64) -> O
         return None;
     }
     let entry = map[label as usize];
-    if entry < to.count() { Some(entry) } else { None }
+    if entry < to.count() {
+        Some(entry)
+    } else {
+        None
+    }
 }
 
 // Across by one map and back by the other.
-pub fn round_trip<P: Order, Q: Order>(from: &P, to: &Q, map: &[u64], back: &[u64], label: u64) -> Option<u64>
+pub fn round_trip<P: Order, Q: Order>(
+    from: &P,
+    to: &Q,
+    map: &[u64],
+    back: &[u64],
+    label: u64,
+) -> Option<u64>
     ensures { λ r. ⌜ r ≡ round-of (P·Order .meaning (now (from .entry))) (Q·Order .meaning (now (to .entry))) (now (map .entry)) (now (back .entry)) label ⌝ }
 {
     let across = image(from, to, map, label)?;
@@ -34,7 +44,13 @@ pub fn settled<P: Order, Q: Order>(from: &P, to: &Q, map: &[u64], back: &[u64], 
 }
 
 // Whether the image of the source label flows to the target label. In a connection, to a settled target, whether the source is in the target's view.
-pub fn move_allowed<P: Order, Q: Order>(from: &P, to: &Q, map: &[u64], source: u64, target: u64) -> bool
+pub fn move_allowed<P: Order, Q: Order>(
+    from: &P,
+    to: &Q,
+    map: &[u64],
+    source: u64,
+    target: u64,
+) -> bool
     ensures value { λ r. ⌜ r ≡ moves (P·Order .meaning (now (from .entry))) (Q·Order .meaning (now (to .entry))) (now (map .entry)) source target ⌝ }
     ensures view { λ r. ⌜ Moves-within-view (P·Order .meaning (now (from .entry))) (Q·Order .meaning (now (to .entry))) (now (map .entry)) source target r ⌝ }
 {

@@ -18,7 +18,10 @@ pub fn total<P: Order, Q: Order>(from: &P, to: &Q, map: &[u64]) -> Result<(), Br
     let known = to.count();
     for (label, entry) in map.iter().enumerate() {
         if *entry >= known {
-            return Err(Broken::Entry { label: label as u64, entry: *entry });
+            return Err(Broken::Entry {
+                label: label as u64,
+                entry: *entry,
+            });
         }
     }
     Ok(())
@@ -115,7 +118,13 @@ fn lawful_item<P: Order, Q: Order>(from: &P, to: &Q, map: &[u64], back: &[u64], 
 }
 
 // At most 128 items, each with a role of at most 2, a known label, and a settled one if it is an import or export.
-pub fn lawful<P: Order, Q: Order>(from: &P, to: &Q, map: &[u64], back: &[u64], items: &[Item]) -> Result<(), Broken>
+pub fn lawful<P: Order, Q: Order>(
+    from: &P,
+    to: &Q,
+    map: &[u64],
+    back: &[u64],
+    items: &[Item],
+) -> Result<(), Broken>
     ensures { λ r. ⌜ r ≡ items-judged (P·Order .meaning (now (from .entry))) (Q·Order .meaning (now (to .entry))) (now (map .entry)) (now (back .entry)) (now (items .entry)) ⌝ }
 {
     if items.len() > 128 {
@@ -123,7 +132,10 @@ pub fn lawful<P: Order, Q: Order>(from: &P, to: &Q, map: &[u64], back: &[u64], i
     }
     for (place, item) in items.iter().enumerate() {
         if !lawful_item(from, to, map, back, *item) {
-            return Err(Broken::Unlawful { item: place as u64, label: item.label });
+            return Err(Broken::Unlawful {
+                item: place as u64,
+                label: item.label,
+            });
         }
     }
     Ok(())

@@ -9,7 +9,9 @@ use tables::Graded;
 use tables::GradedOrder;
 
 const WORKING: u64 = 0;
+
 const IMPORT: u64 = 1;
+
 const EXPORT: u64 = 2;
 
 // A chain of labels that flow upward by number.
@@ -21,17 +23,41 @@ fn chain(labels: u64) -> Result<Graded, AnyError> {
 }
 
 fn certified(rt: &LibcRuntime) -> Result<(), AnyError> {
-    println!(rt, "agreement 1: near is a chain of 3 labels, far a chain of 2; a label flows to itself and to every higher one")?;
+    println!(
+        rt,
+        "agreement 1: near is a chain of 3 labels, far a chain of 2; a label flows to itself and to every higher one"
+    )?;
     let near_items = [
-        Item { role: WORKING, label: 0 },
-        Item { role: WORKING, label: 1 },
-        Item { role: EXPORT, label: 0 },
-        Item { role: IMPORT, label: 2 },
+        Item {
+            role: WORKING,
+            label: 0,
+        },
+        Item {
+            role: WORKING,
+            label: 1,
+        },
+        Item {
+            role: EXPORT,
+            label: 0,
+        },
+        Item {
+            role: IMPORT,
+            label: 2,
+        },
     ];
     let far_items = [
-        Item { role: WORKING, label: 0 },
-        Item { role: IMPORT, label: 0 },
-        Item { role: EXPORT, label: 1 },
+        Item {
+            role: WORKING,
+            label: 0,
+        },
+        Item {
+            role: IMPORT,
+            label: 0,
+        },
+        Item {
+            role: EXPORT,
+            label: 1,
+        },
     ];
     let agreement = Agreement {
         out: &[0, 1, 1],
@@ -43,7 +69,10 @@ fn certified(rt: &LibcRuntime) -> Result<(), AnyError> {
 }
 
 fn drifting(rt: &LibcRuntime) -> Result<(), AnyError> {
-    println!(rt, "agreement 2: near and far are chains of 3 labels; a label flows to itself and to every higher one")?;
+    println!(
+        rt,
+        "agreement 2: near and far are chains of 3 labels; a label flows to itself and to every higher one"
+    )?;
     let agreement = Agreement {
         out: &[1, 2, 2],
         back: &[0, 1, 2],

@@ -23,11 +23,21 @@ fn map_lines(rt: &LibcRuntime, side: Side, map: &[u64]) -> Result<(), AnyError> 
 }
 
 // Which labels of one house are settled.
-fn settled_lines<P: Order, Q: Order>(rt: &LibcRuntime, side: Side, from: &P, to: &Q, map: &[u64], back: &[u64]) -> Result<(), AnyError> {
+fn settled_lines<P: Order, Q: Order>(
+    rt: &LibcRuntime,
+    side: Side,
+    from: &P,
+    to: &Q,
+    map: &[u64],
+    back: &[u64],
+) -> Result<(), AnyError> {
     let own = side.word();
     for label in 0..from.count() {
         if settled(from, to, map, back, label) {
-            println!(rt, "{own} label {label} is settled: across and back it is itself again")?;
+            println!(
+                rt,
+                "{own} label {label} is settled: across and back it is itself again"
+            )?;
         } else {
             println!(rt, "{own} label {label} is not settled")?;
         }
@@ -36,7 +46,14 @@ fn settled_lines<P: Order, Q: Order>(rt: &LibcRuntime, side: Side, from: &P, to:
 }
 
 // The items of one house that a view holds.
-fn item_lines<O: Order>(rt: &LibcRuntime, reader: &str, side: Side, order: &O, highest: u64, items: &[Item]) -> Result<(), AnyError> {
+fn item_lines<O: Order>(
+    rt: &LibcRuntime,
+    reader: &str,
+    side: Side,
+    order: &O,
+    highest: u64,
+    items: &[Item],
+) -> Result<(), AnyError> {
     let house = side.word();
     for number in items_up_to(rt.alloc(), order, highest, items)?.iter() {
         let Some(item) = items.get(*number as usize) else {
@@ -47,26 +64,55 @@ fn item_lines<O: Order>(rt: &LibcRuntime, reader: &str, side: Side, order: &O, h
             None => "unknown",
         };
         let label = item.label;
-        println!(rt, "{reader} may come to depend on {house} item {number}, {role}, label {label}")?;
+        println!(
+            rt,
+            "{reader} may come to depend on {house} item {number}, {role}, label {label}"
+        )?;
     }
     Ok(())
 }
 
 // For each label of one house, the items that somebody cleared for it may come to depend on.
-fn view_lines<N: Order, F: Order>(rt: &LibcRuntime, near: &N, far: &F, agreement: &Agreement<'_>, side: Side, labels: u64) -> Result<(), AnyError> {
+fn view_lines<N: Order, F: Order>(
+    rt: &LibcRuntime,
+    near: &N,
+    far: &F,
+    agreement: &Agreement<'_>,
+    side: Side,
+    labels: u64,
+) -> Result<(), AnyError> {
     let house = side.word();
     for label in 0..labels {
         let Some(view) = view_of(near, far, agreement, side, label) else {
             continue;
         };
         let reader = format!(rt.alloc(), "somebody cleared for {house} label {label}")?;
-        item_lines(rt, reader.as_str(), Side::Near, near, view.near, agreement.near_items)?;
-        item_lines(rt, reader.as_str(), Side::Far, far, view.far, agreement.far_items)?;
+        item_lines(
+            rt,
+            reader.as_str(),
+            Side::Near,
+            near,
+            view.near,
+            agreement.near_items,
+        )?;
+        item_lines(
+            rt,
+            reader.as_str(),
+            Side::Far,
+            far,
+            view.far,
+            agreement.far_items,
+        )?;
     }
     Ok(())
 }
 
-fn accepted<N: Order, F: Order>(rt: &LibcRuntime, near: &N, far: &F, agreement: &Agreement<'_>) -> Result<(), AnyError> {
+fn accepted<N: Order, F: Order>(
+    rt: &LibcRuntime,
+    near: &N,
+    far: &F,
+    agreement: &Agreement<'_>,
+) -> Result<(), AnyError> {
     println!(rt, "accepted")?;
     settled_lines(rt, Side::Near, near, far, agreement.out, agreement.back)?;
     settled_lines(rt, Side::Far, far, near, agreement.back, agreement.out)?;
@@ -75,20 +121,37 @@ fn accepted<N: Order, F: Order>(rt: &LibcRuntime, near: &N, far: &F, agreement: 
 }
 
 // How a label climbs when it goes across and back again and again.
-fn climb_lines<P: Order, Q: Order>(rt: &LibcRuntime, side: Side, from: &P, to: &Q, map: &[u64], back: &[u64], start: u64) -> Result<(), AnyError> {
+fn climb_lines<P: Order, Q: Order>(
+    rt: &LibcRuntime,
+    side: Side,
+    from: &P,
+    to: &Q,
+    map: &[u64],
+    back: &[u64],
+    start: u64,
+) -> Result<(), AnyError> {
     let house = side.word();
     let mut label = start;
     for trip in 1..=from.count() {
         let Some(next) = round_trip(from, to, map, back, label) else {
             break;
         };
-        println!(rt, "round trip {trip} takes {house} label {label} to {next}")?;
+        println!(
+            rt,
+            "round trip {trip} takes {house} label {label} to {next}"
+        )?;
         label = next;
     }
     Ok(())
 }
 
-fn refused<N: Order, F: Order>(rt: &LibcRuntime, near: &N, far: &F, agreement: &Agreement<'_>, fault: Fault) -> Result<(), AnyError> {
+fn refused<N: Order, F: Order>(
+    rt: &LibcRuntime,
+    near: &N,
+    far: &F,
+    agreement: &Agreement<'_>,
+    fault: Fault,
+) -> Result<(), AnyError> {
     let refusal = fault.refusal();
     let number = refusal.number;
     let house = fault.side.word();
@@ -98,15 +161,39 @@ fn refused<N: Order, F: Order>(rt: &LibcRuntime, near: &N, far: &F, agreement: &
     let Broken::Drifts { label } = fault.broken else {
         return Ok(());
     };
-    println!(rt, "{house} label {label} has another image once it has gone across and back")?;
+    println!(
+        rt,
+        "{house} label {label} has another image once it has gone across and back"
+    )?;
     match fault.side {
-        Side::Near => climb_lines(rt, Side::Near, near, far, agreement.out, agreement.back, label),
-        Side::Far => climb_lines(rt, Side::Far, far, near, agreement.back, agreement.out, label),
+        Side::Near => climb_lines(
+            rt,
+            Side::Near,
+            near,
+            far,
+            agreement.out,
+            agreement.back,
+            label,
+        ),
+        Side::Far => climb_lines(
+            rt,
+            Side::Far,
+            far,
+            near,
+            agreement.back,
+            agreement.out,
+            label,
+        ),
     }
 }
 
 // The maps, the verdict, and what follows from it.
-pub fn report<N: Order, F: Order>(rt: &LibcRuntime, near: &N, far: &F, agreement: &Agreement<'_>) -> Result<(), AnyError> {
+pub fn report<N: Order, F: Order>(
+    rt: &LibcRuntime,
+    near: &N,
+    far: &F,
+    agreement: &Agreement<'_>,
+) -> Result<(), AnyError> {
     map_lines(rt, Side::Near, agreement.out)?;
     map_lines(rt, Side::Far, agreement.back)?;
     match certify(near, far, agreement) {

@@ -154,6 +154,13 @@ module _ {F : Type 0} (test : ℕ → ℕ → Bool) (fault : ℕ → ℕ → F) 
   pub pairs-first : (x : F) → tested-pairs ≡ Err x → Smallest-pair x
   pairs-first x e =
       let w = from-first (λ a. tested (test a) (fault a) n) 0 n x e in
-      let v = tested-first (test (w .0)) (fault (w .0)) n x (w .3) in
-      (w .0, v .0, omega (arith, w .2), v .1, v .2, v .3,
-      (λ c d h k. tested-all (test c) (fault c) n (w .4 c (omega arith) h) d k), v .4)
+      let v = tested-first (test (w .0)) (fault (w .0)) n x (w .3) in (
+        w .0,
+        v .0,
+        omega (arith, w .2),
+        v .1,
+        v .2,
+        v .3,
+        (λ c d h k. tested-all (test c) (fault c) n (w .4 c (omega arith) h) d k),
+        v .4,
+      )

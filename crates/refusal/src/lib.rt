@@ -1,4 +1,4 @@
-// What a refusal says: its number, the side that it is about, and two numbers that name the place.
+// What a refusal says: its number, the side that it is about, and two numbers, p and q, that name the place.
 ghost use mathlib.Core.Path.{_≡_};
 ghost use Rattle.refusal.specs.Sides.{other, side-number, side-word};
 
@@ -31,11 +31,12 @@ impl Side {
 }
 
 // A refusal as the rules number it. It has no side where it is about neither house, or about one that stands alone.
+// The first number is wide, since it may be a bit of bytes of any length.
 #[derive(Clone, Copy, PartialEq, Eq, Debug)]
 pub struct Refusal {
     pub number: u8,
     pub side: Option<Side>,
-    pub p: u64,
+    pub p: u128,
     pub q: u64,
 }
 

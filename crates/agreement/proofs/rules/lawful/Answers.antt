@@ -20,7 +20,7 @@ loop-place-again g c =
     let i = c .loop-place .place in
     left-more (item-judged P Q (c .args .map .now) (c .args .back .now) xs) (length xs) i (c .loop-place-test .taken)
     (check-held (lawful-item P Q (c .args .map .now) (c .args .back .now) (getD xs i no-item)) (Unlawful i (getD xs i no-item .label))
-      (sym (c .lawful-item .ensures) ∙ c .if-not-lawful-item .left)) (c .loop-place .inv)
+    (sym (c .lawful-item .ensures) ∙ c .if-not-lawful-item .left)) (c .loop-place .inv)
 
 pub returns-then-not-lawful-item : need.returns-then-not-lawful-item
 returns-then-not-lawful-item g c =
@@ -31,8 +31,8 @@ returns-then-not-lawful-item g c =
     let F = item-judged P Q (c .args .map .now) (c .args .back .now) xs in
     sym (then-ok (check (leb (length xs) 128) TooMany) (each-from F 0 (length xs)) (check-held (leb (length xs) 128) TooMany (le-leb (length xs) 128 (c .if-items-gt128 .left)))
     ∙ left-stop F (length xs) i (Unlawful i (getD xs i no-item .label)) (c .loop-place-test .taken)
-      (check-failed (lawful-item P Q (c .args .map .now) (c .args .back .now) (getD xs i no-item)) (Unlawful i (getD xs i no-item .label))
-        (sym (c .lawful-item .ensures) ∙ c .if-not-lawful-item .taken)) (c .loop-place .inv))
+    (check-failed (lawful-item P Q (c .args .map .now) (c .args .back .now) (getD xs i no-item)) (Unlawful i (getD xs i no-item .label))
+    (sym (c .lawful-item .ensures) ∙ c .if-not-lawful-item .taken)) (c .loop-place .inv))
 
 pub returns : need.returns
 returns g c =

@@ -30,7 +30,7 @@ returns-then-entry-known g c =
     let F = entry-judged Q m in
     sym (then-ok (check (eqb (length m) n) Length) (each-from F 0 n) (check-held (eqb (length m) n) Length (eq-eqb (length m) n (omega (arith, c .count .ensures, c .if-map-count .left))))
     ∙ left-stop F n a (Entry a (at m a)) (omega (arith, c .count .ensures, c .if-map-count .left))
-      (check-failed (ltb (at m a) (Q .count)) (Entry a (at m a)) (le-ltb (at m a) (Q .count) (omega (arith, c .count-known .ensures)))) (c .loop-label .inv))
+    (check-failed (ltb (at m a) (Q .count)) (Entry a (at m a)) (le-ltb (at m a) (Q .count) (omega (arith, c .count-known .ensures)))) (c .loop-label .inv))
 
 pub returns : need.returns
 returns g c =

@@ -18,12 +18,12 @@ loop-number-again g c =
     let k = c .loop-number .number in
     let is = vec-items (c .loop-number .numbers) in
     elim (c .if-flows .came) [
-      then-flows·in-Continue-push w ↦
-        subst (λ (l : List ℕ). Left P (c .args .highest) xs (k + 1) l) (sym (ap vec-items (w .numbers-is) ∙ w .in-Continue-push .ensures tt .items))
-        (left-take P (c .args .highest) xs k is (c .loop-number-test .taken) (sym (c .flows .ensures) ∙ w .if-flows .taken) (c .loop-number .inv))
-    | else-flows w ↦
-        subst (λ (l : List ℕ). Left P (c .args .highest) xs (k + 1) l) (sym (ap vec-items (w .numbers-is)))
-        (left-skip P (c .args .highest) xs k is (c .loop-number-test .taken) (sym (c .flows .ensures) ∙ w .if-flows .left) (c .loop-number .inv))
+      | then-flows·in-Continue-push w ↦
+          subst (λ (l : List ℕ). Left P (c .args .highest) xs (k + 1) l) (sym (ap vec-items (w .numbers-is) ∙ w .in-Continue-push .ensures tt .items))
+          (left-take P (c .args .highest) xs k is (c .loop-number-test .taken) (sym (c .flows .ensures) ∙ w .if-flows .taken) (c .loop-number .inv))
+      | else-flows w ↦
+          subst (λ (l : List ℕ). Left P (c .args .highest) xs (k + 1) l) (sym (ap vec-items (w .numbers-is)))
+          (left-skip P (c .args .highest) xs k is (c .loop-number-test .taken) (sym (c .flows .ensures) ∙ w .if-flows .left) (c .loop-number .inv))
     ]
 
 pub returns : need.returns
