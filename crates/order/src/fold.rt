@@ -5,6 +5,7 @@ ghost use Rattle.std.specs.declared.option.Option.the-variants.{Some};
 ghost use Rattle.order.specs.Bounds.{Joined, Supremum, toward};
 use crate::bound::Bound;
 use crate::order::Lattice;
+use crate::order::Order;
 
 // The bound of two labels.
 pub fn bound_of_two<L: Lattice>(lattice: &L, which: Bound, a: u64, b: u64) -> Option<u64>
@@ -17,12 +18,12 @@ pub fn bound_of_two<L: Lattice>(lattice: &L, which: Bound, a: u64, b: u64) -> Op
 }
 
 // Whether a flows to b, or b to a where the greatest lower label is asked for.
-fn flows_toward<L: Lattice>(lattice: &L, which: Bound, a: u64, b: u64) -> bool
-    ensures { λ r. ⌜ r ≡ toward which (L·Order .meaning (now (lattice .entry))) .flow a b ⌝ }
+pub fn flows_toward<O: Order>(order: &O, which: Bound, a: u64, b: u64) -> bool
+    ensures { λ r. ⌜ r ≡ toward which (O·Order .meaning (now (order .entry))) .flow a b ⌝ }
 {
     match which {
-        Bound::Join => lattice.flows(a, b),
-        Bound::Meet => lattice.flows(b, a),
+        Bound::Join => order.flows(a, b),
+        Bound::Meet => order.flows(b, a),
     }
 }
 

@@ -7,6 +7,7 @@ mod reversed;
 pub use bound::Bound;
 pub use fold::bound_of;
 pub use fold::bound_of_two;
+pub use fold::flows_toward;
 pub use order::Lattice;
 pub use order::Order;
 pub use reversed::Reversed;

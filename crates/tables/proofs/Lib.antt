@@ -1,2 +1,10 @@
+pub mod Masks
+pub mod Searches
+pub mod Flows
+pub mod Judgements
+pub mod Orders
+pub mod Padding
+pub mod Suprema
+pub mod Lattices
 pub mod Sets
 pub mod GradedBounds
