@@ -1,0 +1,7 @@
+// Tests: a case of each refusal, the worked examples, and layers piled on tables.
+#[cfg(test)]
+mod agreements;
+#[cfg(test)]
+mod layers;
+#[cfg(test)]
+mod tables_of_cases;
