@@ -23,7 +23,7 @@ use Rattle.refusal.specs.Judging.{Judgement, accepted, _⨟_}
 use Rattle.refusal.proofs.Judging.{then-ok, then-err, then-both, check-true}
 use Rattle.tables.specs.Bounded.{bounded, bounded-at, bounds-judged, flow-toward, lacking, Candidate}
 use Rattle.tables.specs.Listed.{order-judged, rows-judged, LatticeRows, Holds}
-use Rattle.tables.specs.Rows.{listed-flow, listed-order, IsOrder}
+use Rattle.tables.specs.Rows.{listed-flow, rows-flow, listed-order, IsOrder}
 use Rattle.tables.specs.declared.fault.TableFault.{TableFault}
 use Rattle.tables.proofs.Flows.{flow-more}
 use Rattle.tables.proofs.Judgements.{passes, pair-from-all, all-from-pair}
@@ -77,7 +77,7 @@ pub decides-lattice : (rows : List ℕ) → Decides (isOk (rows-judged rows)) (L
 decides-lattice rows = decides-like (isOk (rows-judged rows)) there back (decides-ok (rows-judged rows))
   where
     judged : Bound → Judgement TableFault
-    judged w = bounds-judged w (length rows) (listed-flow (length rows) rows)
+    judged w = bounds-judged w (length rows) (rows-flow rows)
 
     there : rows-judged rows ≡ accepted → LatticeRows rows
     there e =
@@ -95,14 +95,14 @@ decides-lattice rows = decides-like (isOk (rows-judged rows)) there back (decide
         ∙ judged-from-joins Meet P (l .lattice .meets)
 
 -- a table that holds rows has their flow, and so their judgements
-pub held-flow : (rows : List ℕ) (count : ℕ) (table : List ℕ) → Holds rows count table → listed-flow count table ≡ listed-flow (length rows) rows
+pub held-flow : (rows : List ℕ) (count : ℕ) (table : List ℕ) → Holds rows count table → listed-flow count table ≡ rows-flow rows
 held-flow rows count table h =
     ap (λ (n : ℕ). listed-flow n table) (h .counted) ∙ ap (listed-flow (length rows)) (h .stored) ∙ flow-more (length rows) rows (replicate (32 - length rows) 0) (omega arith)
 
 pub held-bounds : (w : Bound) (rows : List ℕ) (count : ℕ) (table : List ℕ) → Holds rows count table →
-    bounds-judged w count (listed-flow count table) ≡ bounds-judged w (length rows) (listed-flow (length rows) rows)
+    bounds-judged w count (listed-flow count table) ≡ bounds-judged w (length rows) (rows-flow rows)
 held-bounds w rows count table h =
-    ap (bounds-judged w count) (held-flow rows count table h) ∙ ap (λ (n : ℕ). bounds-judged w n (listed-flow (length rows) rows)) (h .counted)
+    ap (bounds-judged w count) (held-flow rows count table h) ∙ ap (λ (n : ℕ). bounds-judged w n (rows-flow rows)) (h .counted)
 
 -- what is answered by the judgement of rows keeps its law
 pub lattice-answer : (rows : List ℕ) (r : Judgement TableFault) → r ≡ rows-judged rows → Decides (isOk r) (LatticeRows rows)
@@ -118,8 +118,8 @@ module _ (rows : List ℕ) (count : ℕ) (table : List ℕ) (h : Holds rows coun
   -- rows that are an order are judged on by the bounds of the table
   judged-on : order-judged rows ≡ accepted → rows-judged rows ≡ (joined ⨟ met)
   judged-on ordered =
-      then-ok (order-judged rows) (bounds-judged Join (length rows) (listed-flow (length rows) rows) ⨟ bounds-judged Meet (length rows) (listed-flow (length rows) rows)) ordered
-      ∙ ap (λ (j : Judgement TableFault). j ⨟ bounds-judged Meet (length rows) (listed-flow (length rows) rows)) (sym (held-bounds Join rows count table h))
+      then-ok (order-judged rows) (bounds-judged Join (length rows) (rows-flow rows) ⨟ bounds-judged Meet (length rows) (rows-flow rows)) ordered
+      ∙ ap (λ (j : Judgement TableFault). j ⨟ bounds-judged Meet (length rows) (rows-flow rows)) (sym (held-bounds Join rows count table h))
       ∙ ap (λ (j : Judgement TableFault). joined ⨟ j) (sym (held-bounds Meet rows count table h))
 
   pub judged-no-join : order-judged rows ≡ accepted → (x : TableFault) → Err x ≡ joined → rows-judged rows ≡ Err x
@@ -134,8 +134,8 @@ module _ (rows : List ℕ) (count : ℕ) (table : List ℕ) (h : Holds rows coun
   -- a table that holds the rows of a lattice is a lattice
   pub held-lattice : (some : 1 ≤ count) (few : count ≤ 32) (lawful : ∥ IsOrder count table ∥₁) → rows-judged rows ≡ accepted → IsLattice (listed-order count table some few lawful)
   held-lattice some few lawful e =
-      let first = then-both (order-judged rows) (bounds-judged Join (length rows) (listed-flow (length rows) rows) ⨟ bounds-judged Meet (length rows) (listed-flow (length rows) rows)) e in
-      let second = then-both (bounds-judged Join (length rows) (listed-flow (length rows) rows)) (bounds-judged Meet (length rows) (listed-flow (length rows) rows)) (first .1) in
+      let first = then-both (order-judged rows) (bounds-judged Join (length rows) (rows-flow rows) ⨟ bounds-judged Meet (length rows) (rows-flow rows)) e in
+      let second = then-both (bounds-judged Join (length rows) (rows-flow rows)) (bounds-judged Meet (length rows) (rows-flow rows)) (first .1) in
       let P = listed-order count table some few lawful in
       record { joins = joins-from-judged Join P (sym (held-bounds Join rows count table h ∙ second .0)); meets = joins-from-judged Meet P (sym (held-bounds Meet rows count table h ∙ second .1)) }
 

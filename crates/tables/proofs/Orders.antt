@@ -16,7 +16,7 @@ use Rattle.refusal.specs.Judging.{Judgement, accepted, _⨟_, check, each-from}
 use Rattle.refusal.proofs.Judging.{then-ok, then-both, check-true, from-all, all-from}
 use Rattle.tables.specs.Bounded.{each-pair, all-below}
 use Rattle.tables.specs.Listed.{reflexive-at, antisymmetric-at, carries, transitive-at, transitive-from, laws-judged, order-judged, OrderRows}
-use Rattle.tables.specs.Rows.{listed-flow, flow-known, IsOrder}
+use Rattle.tables.specs.Rows.{listed-flow, rows-flow, flow-known, IsOrder}
 use Rattle.tables.specs.declared.fault.TableFault.{TableFault}
 use Rattle.tables.specs.declared.fault.TableFault.the-variants.{Rows, NotReflexive, NotAntisymmetric, NotTransitive}
 use Rattle.tables.proofs.Flows.{flow-more}
@@ -86,7 +86,7 @@ decides-order rows = decides-like (isOk (order-judged rows)) there back (decides
     n = length rows
 
     laws : Judgement TableFault
-    laws = laws-judged n (listed-flow n rows)
+    laws = laws-judged n (rows-flow rows)
 
     there : order-judged rows ≡ accepted → OrderRows rows
     there e =
@@ -104,9 +104,9 @@ pub order-answer : (rows : List ℕ) (r : Judgement TableFault) → r ≡ order-
 order-answer rows r e = subst (λ (j : Judgement TableFault). Decides (isOk j) (OrderRows rows)) (sym e) (decides-order rows)
 
 -- 1 to 32 rows are judged by the laws
-pub order-in-range : (rows : List ℕ) → 1 ≤ length rows → length rows ≤ 32 → laws-judged (length rows) (listed-flow (length rows) rows) ≡ order-judged rows
+pub order-in-range : (rows : List ℕ) → 1 ≤ length rows → length rows ≤ 32 → laws-judged (length rows) (rows-flow rows) ≡ order-judged rows
 order-in-range rows some few =
-    ap (λ (t : Bool). check t Rows ⨟ laws-judged (length rows) (listed-flow (length rows) rows))
+    ap (λ (t : Bool). check t Rows ⨟ laws-judged (length rows) (rows-flow rows))
     (sym (and-from (leb 1 (length rows)) (leb (length rows) 32) (le-leb 1 (length rows) some) (le-leb (length rows) 32 few)))
 
 -- rows behind those of the labels change nothing

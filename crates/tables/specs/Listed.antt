@@ -9,7 +9,7 @@ use Rattle.order.specs.Bounds.{IsLattice}
 use Rattle.order.specs.declared.bound.Bound.the-variants.{Join, Meet}
 use Rattle.refusal.specs.Judging.{Judgement, _⨟_, check, each-from}
 use Rattle.tables.specs.Bounded.{all-below, each-pair, bounds-judged}
-use Rattle.tables.specs.Rows.{listed-flow, listed-order, IsOrder}
+use Rattle.tables.specs.Rows.{rows-flow, listed-order, IsOrder}
 use Rattle.tables.specs.declared.fault.TableFault.{TableFault}
 use Rattle.tables.specs.declared.fault.TableFault.the-variants.{Rows, NotReflexive, NotAntisymmetric, NotTransitive}
 
@@ -38,12 +38,12 @@ laws-judged n flow = each-from (reflexive-at flow) 0 n ⨟ each-pair (antisymmet
 
 -- the rows are 1 to 32, and keep the laws of an order
 abbrev pub order-judged : List ℕ → Judgement TableFault
-order-judged rows = check (leb 1 (length rows) && leb (length rows) 32) Rows ⨟ laws-judged (length rows) (listed-flow (length rows) rows)
+order-judged rows = check (leb 1 (length rows) && leb (length rows) 32) Rows ⨟ laws-judged (length rows) (rows-flow rows)
 
 -- the rows are an order in which every two labels have a join, and every two a meet
 abbrev pub rows-judged : List ℕ → Judgement TableFault
 rows-judged rows =
-    order-judged rows ⨟ bounds-judged Join (length rows) (listed-flow (length rows) rows) ⨟ bounds-judged Meet (length rows) (listed-flow (length rows) rows)
+    order-judged rows ⨟ bounds-judged Join (length rows) (rows-flow rows) ⨟ bounds-judged Meet (length rows) (rows-flow rows)
 
 -- 1 to 32 rows that are an order
 pub record OrderRows (rows : List ℕ) : Type 0 where

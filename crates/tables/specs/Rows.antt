@@ -7,13 +7,17 @@ use Prim.Native.Nat.{ℕ, _/_, _%_, _^_, _≤_, _<_}
 use native.Mathlib.Nat.{ℕ-set}
 use native.Mathlib.Omega.{arith}
 use lib.Dec.{ltb, eqb}
-use lib.ListN.{getD}
+use lib.ListN.{length, getD}
 use Rattle.std.proofs.shelf.Tests.{and-parts, ltb-true}
 use Rattle.order.specs.Orders.{PartialOrder}
 
 -- label a flows to label b, of n labels: bit b of row a, which is worth 2 ^ b, is 1
 unfoldable pub listed-flow : ℕ → List ℕ → ℕ → ℕ → Bool
 listed-flow n rows a b = (ltb a n && ltb b n) && eqb (getD rows a 0 / 2 ^ b % 2) 1
+
+-- the flow of as many labels as there are rows
+abbrev pub rows-flow : List ℕ → ℕ → ℕ → Bool
+rows-flow rows = listed-flow (length rows) rows
 
 -- only the n labels flow
 pub flow-known : (n : ℕ) (rows : List ℕ) (a b : ℕ) → listed-flow n rows a b ≡ true → (a < n) × (b < n)
