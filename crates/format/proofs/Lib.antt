@@ -1,0 +1,5 @@
+pub mod Pieces
+pub mod Readings
+pub mod Bytes
+pub mod Laws
+pub mod Loops
