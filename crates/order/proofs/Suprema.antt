@@ -1,13 +1,17 @@
--- Least upper labels: of lists that grow at the end, and of no labels. Assumes nothing.
-use mathlib.Core.Path.{_≡_, refl, sym, ap, subst, _∙_}
-use mathlib.Core.Bool.{Bool, true, false, Bool-set}
+-- Least upper labels: of lists that grow at the end, of no labels, and by a pass over the labels. Assumes nothing.
+use mathlib.Core.Path.{_≡_, refl, sym, ap, subst}
+use mathlib.Core.Bool.{true, Bool-set}
 use mathlib.Core.List.{List, [], _∷_, _++_}
-use mathlib.Core.Logic.{_⊎_, inl, inr, ∥∥₁-elim, ∥∥₁-map}
-use Prim.Native.Nat.{ℕ, zero, suc, _+_, _≤_, _<_}
+use mathlib.Core.Logic.{∥∥₁-elim, ∥∥₁-map}
+use Prim.Native.Nat.{ℕ, zero, suc, _+_, _-_, _<_}
 use native.Mathlib.Omega.{arith}
+use borrow.Author.Count.{below-more}
 use lib.ListN.{length, getD, take}
 use Rattle.std.proofs.shelf.Lists.{take-more}
-use Rattle.std.proofs.shelf.Tests.{cases-order, both-ways}
+use Rattle.std.proofs.shelf.Results.{cases-at-some}
+use Rattle.std.specs.Options.{Cases}
+use Rattle.std.specs.declared.option.Option.{Option}
+use Rattle.std.specs.declared.option.Option.the-variants.{Some, None}
 use Rattle.order.specs.Orders.{PartialOrder, dual}
 use Rattle.order.specs.Bounds.{Known, Upper, Supremum, Joins, IsLattice, toward}
 use Rattle.order.specs.declared.bound.Bound.{Bound}
@@ -43,29 +47,23 @@ known-at P (x ∷ xs) zero h all = all .0
 known-at P (x ∷ xs) (suc k) h all = known-at P xs k (omega arith) (all .1)
 
 -- one label flows to every label up to k
-lower : (P : PartialOrder) → Joins (dual P) → (k : ℕ) → k < P .count → ∥ ((b : ℕ) × ((d : ℕ) → d ≤ k → P .flow b d ≡ true)) ∥₁
-lower P meets zero h = ∣ (0, λ d l. subst (λ (x : ℕ). P .flow 0 x ≡ true) (omega arith) (P .reflexive 0 h)) ∣₁
+lower : (P : PartialOrder) → Joins (dual P) → (k : ℕ) → k < P .count → ∥ ((b : ℕ) × ((d : ℕ) → d < k + 1 → P .flow b d ≡ true)) ∥₁
+lower P meets zero h = ∣ (0, below-more (λ d. P .flow 0 d ≡ true) 0 (λ d l. absurd (omega arith)) (P .reflexive 0 h)) ∣₁
 lower P meets (suc k) h =
     ∥∥₁-elim (lower P meets k (omega arith)) squash₁
     (λ below. ∥∥₁-map (meets (below .0) (suc k) (P .known (below .0) 0 (below .1 0 (omega arith)) .0) h)
-    (λ both. (both .0, λ d l. go (below .0) (below .1) (both .0) (both .1) d l (cases-order d (suc k)))))
-  where
-    go : (b : ℕ) → ((d : ℕ) → d ≤ k → P .flow b d ≡ true) → (e : ℕ) → Supremum (dual P) (b ∷ suc k ∷ []) e → (d : ℕ) → d ≤ suc k → (d ≡ suc k) ⊎ ((d < suc k) ⊎ (suc k < d)) → P .flow e d ≡ true
-    go b f e s d l (inl q) = subst (λ (x : ℕ). P .flow e x ≡ true) (sym q) (s .upper .1 .0)
-    go b f e s d l (inr (inl q)) = P .transitive e b d (s .upper .0) (f d (omega arith))
-    go b f e s d l (inr (inr q)) = absurd (omega arith)
+    (λ both. (
+      both .0,
+      below-more (λ d. P .flow (both .0) d ≡ true) (suc k)
+          (λ d l. P .transitive (both .0) (below .0) d (both .1 .upper .0) (below .1 d (omega arith))) (both .1 .upper .1 .0),
+    )))
 
--- b flows to every label
-abbrev pub IsBottom : PartialOrder → ℕ → Type 0
-IsBottom P b = (d : ℕ) → d < P .count → P .flow b d ≡ true
-
--- a lattice has a bottom
-pub bottom : (P : PartialOrder) → Joins (dual P) → ∥ ((b : ℕ) × IsBottom P b) ∥₁
-bottom P meets = go (P .count) refl (P .nonempty)
-  where
-    go : (n : ℕ) → P .count ≡ n → 1 ≤ n → ∥ ((b : ℕ) × IsBottom P b) ∥₁
-    go zero e h = absurd (omega arith)
-    go (suc n) e h = ∥∥₁-map (lower P meets n (omega arith)) (λ below. (below .0, λ d l. below .1 d (omega arith)))
+-- a lattice has a bottom, the least upper label of none
+pub bottom : (P : PartialOrder) → Joins (dual P) → ∥ ((b : ℕ) × Supremum P [] b) ∥₁
+bottom P meets =
+    let some = P .nonempty in
+    ∥∥₁-map (lower P meets (P .count - 1) (omega arith)) (λ below.
+    (below .0, record { known = P .known (below .0) 0 (below .1 0 (omega arith)) .0; upper = tt; least = λ d l u. below .1 d (omega arith) }))
 
 pub toward-meets : (w : Bound) (P : PartialOrder) → IsLattice P → Joins (dual (toward w P))
 toward-meets Join P l = l .meets
@@ -75,32 +73,40 @@ pub toward-count : (w : Bound) (P : PartialOrder) → toward w P .count ≡ P .c
 toward-count Join P = refl
 toward-count Meet P = refl
 
--- a bottom among the labels below k is the label at hand
-abbrev pub Passed : PartialOrder → ℕ → ℕ → Type 0
-Passed P k least = (b : ℕ) → IsBottom P b → b < k → least ≡ b
+-- A pass over the labels has kept an upper one, and the least one if it is below k.
+pub record Passed (P : PartialOrder) (xs : List ℕ) (k : ℕ) (best : Option ℕ) : Type 0 where
+  pub above : Cases best (Unit {0}) (λ m. (m < P .count) × Upper P xs m)
+  pub first : (c : ℕ) → c < k → Supremum P xs c → best ≡ Some c
 
-pub passed-taken : (P : PartialOrder) (k least : ℕ) → k < P .count → Passed P k least → P .flow k least ≡ true → Passed P (k + 1) k
-passed-taken P k least h passed f b low l = go (cases-order b k)
-  where
-    go : (b ≡ k) ⊎ ((b < k) ⊎ (k < b)) → k ≡ b
-    go (inl q) = sym q
-    go (inr (inl q)) = P .antisymmetric k b (subst (λ (x : ℕ). P .flow k x ≡ true) (passed b low q) f) (low k h)
-    go (inr (inr q)) = absurd (omega arith)
+-- the label is upper, and flows to the one that was kept
+abbrev pub Better : PartialOrder → List ℕ → ℕ → Option ℕ → Type 0
+Better P xs k best = Upper P xs k × Cases best (Unit {0}) (λ m. P .flow k m ≡ true)
 
-pub passed-left : (P : PartialOrder) (k least : ℕ) → least < P .count → Passed P k least → P .flow k least ≡ false → Passed P (k + 1) least
-passed-left P k least h passed f b low l = go (cases-order b k)
-  where
-    go : (b ≡ k) ⊎ ((b < k) ⊎ (k < b)) → least ≡ b
-    go (inl q) = absurd (both-ways (P .flow k least) f (subst (λ (x : ℕ). P .flow x least ≡ true) q (low least h)))
-    go (inr (inl q)) = passed b low q
-    go (inr (inr q)) = absurd (omega arith)
+module _ {P : PartialOrder} {xs : List ℕ} {k : ℕ} where
+  pub passed-taken : {best : Option ℕ} → Passed P xs k best → k < P .count → Better P xs k best → Passed P xs (k + 1) (Some k)
+  passed-taken passed h (up, under) = record {
+    above = (h, up);
+    first = below-more (λ c. Supremum P xs c → Some k ≡ Some c) k
+        (λ c l s. ap Some (P .antisymmetric k c (cases-at-some (Unit {0}) (λ m. P .flow k m ≡ true) c (passed .first c l s) under) (s .least k h up))) (λ s. refl);
+  }
 
-pub passed-all : (P : PartialOrder) (k least : ℕ) → Joins (dual P) → least < P .count → P .count ≤ k → Passed P k least → Supremum P [] least
-passed-all P k least meets h all passed = record {
+  pub passed-left : {best : Option ℕ} → Passed P xs k best → (Better P xs k best → ⊥) → Passed P xs (k + 1) best
+  passed-left {best} passed worse = record {
+    above = passed .above;
+    first = below-more (λ c. Supremum P xs c → best ≡ Some c) k (passed .first) (λ s. absurd (worse (s .upper, under s best (passed .above))));
+  }
+    where
+      under : Supremum P xs k → (o : Option ℕ) → Cases o (Unit {0}) (λ m. (m < P .count) × Upper P xs m) → Cases o (Unit {0}) (λ m. P .flow k m ≡ true)
+      under s None a = tt
+      under s (Some m) a = s .least m (a .0) (a .1)
+
+-- an upper label that is the least one wherever there is one
+pub supremum-kept : (P : PartialOrder) (xs : List ℕ) (m : ℕ) → ∥ ((c : ℕ) × Supremum P xs c) ∥₁ → m < P .count → Upper P xs m → ((c : ℕ) → Supremum P xs c → Some m ≡ Some c) → Supremum P xs m
+supremum-kept P xs m some h up first = record {
   known = h;
-  upper = tt;
-  least = λ d l u. ∥∥₁-elim (bottom P meets) (Bool-set (P .flow least d) true)
-      (λ low. subst (λ (x : ℕ). P .flow x d ≡ true) (sym (passed (low .0) (low .1) (omega (arith, P .known (low .0) 0 (low .1 0 (P .nonempty)))))) (low .1 d l));
+  upper = up;
+  least = λ d l u. ∥∥₁-elim some (Bool-set (P .flow m d) true)
+      (λ w. let found = first (w .0) (w .1) in let same : w .0 ≡ m = cc in subst (λ (x : ℕ). P .flow x d ≡ true) same (w .1 .least d l u));
 }
 
 pub supremum-one : (P : PartialOrder) (x : ℕ) → x < P .count → Supremum P (x ∷ []) x

@@ -5,16 +5,16 @@ use mathlib.Core.List.{[], _∷_}
 use Prim.Native.Nat.{ℕ, _+_, _*_, _^_, _≤_, _<_}
 use native.Mathlib.Nat.{le-max-left, le-max-right, max-le, min-le-left, min-le-right, le-min}
 use native.Mathlib.Omega.{arith}
-use lib.Bits.{and-comm, or-comm, and-lt}
+use lib.Bits.{bitAnd, bitOr, and-lt}
 use Rattle.std.proofs.shelf.Bits.{pow-pos, mod-below, div-below, div-mul-add, mod-mul-add, mul-add-lt, or-lt}
 use Rattle.order.specs.Bounds.{Supremum, toward}
 use Rattle.order.specs.declared.bound.Bound.{Bound}
 use Rattle.order.specs.declared.bound.Bound.the-variants.{Join, Meet}
 use Rattle.order.proofs.Suprema.{toward-count}
 use Rattle.tables.specs.Graded.{Limited, labels, level-of, set-of, level-bound, set-bound}
-use Rattle.tables.specs.GradedSets.{Inside}
+use Rattle.tables.specs.GradedSets.{Inside, and-bit, inside-bits, bits-inside}
 use Rattle.tables.specs.GradedOrder.{graded, flow-true, flow-from-parts}
-use Rattle.tables.proofs.Sets.{inside-union, union-inside, shared-inside, inside-shared}
+use Rattle.tables.proofs.Sets.{or-bit}
 
 -- z is the least above x and y
 record Least (R : ℕ → ℕ → Type 0) (x y z : ℕ) : Type 0 where
@@ -37,14 +37,14 @@ level-least Meet x y = record { left = min-le-left x y; right = min-le-right x y
 
 set-least : (w : Bound) (x y : ℕ) → Least (Wider w) x y (set-bound w x y)
 set-least Join x y = record {
-  left = inside-union x y;
-  right = subst (Inside y) (or-comm y x) (inside-union y x);
-  least = union-inside x y;
+  left = bits-inside x (bitOr x y) (λ c. omega (arith, or-bit x y c));
+  right = bits-inside y (bitOr x y) (λ c. omega (arith, or-bit x y c));
+  least = λ d h k. bits-inside (bitOr x y) d (λ c. omega (arith, or-bit x y c, inside-bits x d h c, inside-bits y d k c));
 }
 set-least Meet x y = record {
-  left = shared-inside x y;
-  right = subst (λ (z : ℕ). Inside z y) (and-comm y x) (shared-inside y x);
-  least = inside-shared x y;
+  left = bits-inside (bitAnd x y) x (λ c. omega (arith, and-bit x y c));
+  right = bits-inside (bitAnd x y) y (λ c. omega (arith, and-bit x y c));
+  least = λ d h k. bits-inside d (bitAnd x y) (λ c. omega (arith, and-bit x y c, inside-bits d x h c, inside-bits d y k c));
 }
 
 level-below : (w : Bound) (x y n : ℕ) → x < n → y < n → level-bound w x y < n

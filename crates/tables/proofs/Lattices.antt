@@ -1,59 +1,62 @@
 -- Rows are accepted exactly where they are a lattice, and what a table that holds them means. Assumes nothing.
 use mathlib.Core.Path.{_≡_, refl, sym, ap, subst, _∙_}
-use mathlib.Core.Bool.{true, Bool-set}
+use mathlib.Core.Bool.{Bool, true, Bool-set}
 use mathlib.Core.List.{List, [], _∷_}
 use mathlib.Core.HLevel.{⊥-prop}
-use mathlib.Core.Logic.{_⊎_, inl, inr, ∥∥₁-elim}
+use mathlib.Core.Logic.{_⊎_, inl, inr, ∥∥₁-elim, ∥∥₁-map}
 use Prim.Native.Nat.{ℕ, _-_, _≤_, _<_}
 use native.Mathlib.Omega.{arith}
 use lib.ListN.{length, replicate}
 use Rattle.std.proofs.shelf.Tests.{cases-order}
-use Rattle.std.proofs.shelf.Ways.{decides-like}
+use Rattle.std.proofs.shelf.Ways.{decides-at}
 use Rattle.std.specs.Orderings.{Decides}
-use Rattle.std.specs.Results.{isOk}
 use Rattle.std.specs.declared.option.Option.{Option}
 use Rattle.std.specs.declared.option.Option.the-variants.{Some, None}
-use Rattle.std.specs.declared.result.Result.the-variants.{Err}
 use Rattle.order.specs.Orders.{PartialOrder}
 use Rattle.order.specs.Bounds.{Supremum, Joined, Joins, IsLattice, toward}
 use Rattle.order.specs.declared.bound.Bound.{Bound}
 use Rattle.order.specs.declared.bound.Bound.the-variants.{Join, Meet}
-use Rattle.order.proofs.Suprema.{toward-count}
+use Rattle.order.proofs.Suprema.{toward-count, supremum-kept}
 use Rattle.refusal.specs.Judging.{Judgement, accepted, _⨟_}
-use Rattle.refusal.proofs.Judging.{then-ok, then-err, then-both, check-true}
-use Rattle.tables.specs.Bounded.{bounded, bounded-at, bounds-judged, flow-toward, lacking, Candidate}
+use Rattle.refusal.proofs.Fitting.{Fits, fits-as, check-fits, then-fits}
+use Rattle.refusal.proofs.Judging.{then-at}
+use Rattle.tables.specs.Bounded.{bounded, bounded-in, bounds-judged, flow-toward, lacking, Candidate}
 use Rattle.tables.specs.Listed.{order-judged, rows-judged, LatticeRows, Holds}
 use Rattle.tables.specs.Rows.{listed-flow, rows-flow, listed-order, IsOrder}
 use Rattle.tables.specs.declared.fault.TableFault.{TableFault}
 use Rattle.tables.proofs.Flows.{flow-more}
-use Rattle.tables.proofs.Judgements.{passes, pair-from-all, all-from-pair}
-use Rattle.tables.proofs.Orders.{decides-ok, decides-order}
+use Rattle.tables.proofs.Orders.{order-fits}
+use Rattle.tables.proofs.Searches.{ordered-pairs-fit}
 use Rattle.tables.proofs.Suprema.{bounded-toward, decides-bounded}
 
 swapped : (P : PartialOrder) (a b c : ℕ) → Supremum P (b ∷ a ∷ []) c → Supremum P (a ∷ b ∷ []) c
 swapped P a b c s = record { known = s .known; upper = (s .upper .1 .0, (s .upper .0, tt)); least = λ d k u. s .least d k (u .1 .0, (u .0, tt)) }
 
 -- a bound of every two labels, from that of every two in order
-ordered-joins : (P : PartialOrder) → ((a b : ℕ) → a < b → b < P .count → (c : ℕ) × Supremum P (a ∷ b ∷ []) c) → Joins P
-ordered-joins P all a b h k = ∣ go (cases-order a b) ∣₁
+ordered-joins : (P : PartialOrder) → ((a b : ℕ) → a < b → b < P .count → ∥ ((c : ℕ) × Supremum P (a ∷ b ∷ []) c) ∥₁) → Joins P
+ordered-joins P all a b h k = go (cases-order a b)
   where
-    go : (a ≡ b) ⊎ ((a < b) ⊎ (b < a)) → (c : ℕ) × Supremum P (a ∷ b ∷ []) c
-    go (inl q) = (b, record { known = k; upper = (subst (λ (x : ℕ). P .flow x b ≡ true) (sym q) (P .reflexive b k), (P .reflexive b k, tt)); least = λ d l u. u .1 .0 })
+    go : (a ≡ b) ⊎ ((a < b) ⊎ (b < a)) → ∥ ((c : ℕ) × Supremum P (a ∷ b ∷ []) c) ∥₁
+    go (inl q) = ∣ (b, record { known = k; upper = (subst (λ (x : ℕ). P .flow x b ≡ true) (sym q) (P .reflexive b k), (P .reflexive b k, tt)); least = λ d l u. u .1 .0 }) ∣₁
     go (inr (inl q)) = all a b q k
-    go (inr (inr q)) = let w = all b a q h in (w .0, swapped P a b (w .0) (w .1))
+    go (inr (inr q)) = ∥∥₁-map (all b a q h) (λ w. (w .0, swapped P a b (w .0) (w .1)))
 
-module _ (w : Bound) (P : PartialOrder) where
-  pub joins-from-judged : accepted ≡ bounds-judged w (P .count) (P .flow) → Joins (toward w P)
-  joins-from-judged e = ordered-joins (toward w P) (λ a b h k. decides-bounded (toward w P) a b .0 (bounded-toward w P a b
-      ∙ check-true (bounded (P .count) (flow-toward w (P .flow)) a b) (lacking w a b) (pair-from-all (bounded-at w (P .count) (P .flow)) (P .count) (sym e) a b h (omega (arith, toward-count w P)))))
+bounds-fit : (w : Bound) (P : PartialOrder) → Fits (bounds-judged w (P .count) (P .flow)) (Joins (toward w P)) (λ _. Unit {0})
+bounds-fit w P =
+    fits-as (λ all. ordered-joins (toward w P) (λ a b h k. all a b h (omega (arith, toward-count w P))))
+    (λ joins a b h k. joins a b (omega (arith, toward-count w P)) (omega (arith, toward-count w P))) (λ _ _. tt)
+    (ordered-pairs-fit (P .count) (λ a b. check-fits (judged a b) (lacking w a b) (decides-some a b)))
+  where
+    judged : ℕ → ℕ → Bool
+    judged a b = bounded (P .count) (flow-toward w (P .flow)) a b
 
-  pub judged-from-joins : Joins (toward w P) → bounds-judged w (P .count) (P .flow) ≡ accepted
-  judged-from-joins joins = all-from-pair (bounded-at w (P .count) (P .flow)) (P .count) (λ a b h k. sym (passes (bounded (P .count) (flow-toward w (P .flow)) a b) (lacking w a b) (sym (here a b h k))))
-    where
-      here : (a b : ℕ) → a < b → b < P .count → bounded (P .count) (flow-toward w (P .flow)) a b ≡ true
-      here a b h k =
-          sym (bounded-toward w P a b)
-          ∙ ∥∥₁-elim (joins a b (omega (arith, toward-count w P)) (omega (arith, toward-count w P))) (Bool-set _ true) (decides-bounded (toward w P) a b .1)
+    decides-some : (a b : ℕ) → Decides (judged a b) ∥ ((c : ℕ) × Supremum (toward w P) (a ∷ b ∷ []) c) ∥₁
+    decides-some a b =
+        let d = decides-at (judged a b) (bounded-in (toward w P) a b) (sym (bounded-toward w P a b)) (decides-bounded (toward w P) a b) in
+        (λ e. ∣ d .0 e ∣₁, λ some. ∥∥₁-elim some (Bool-set (judged a b) true) (d .1))
+
+pub judged-lattice : (P : PartialOrder) → accepted ≡ bounds-judged Join (P .count) (P .flow) → accepted ≡ bounds-judged Meet (P .count) (P .flow) → IsLattice P
+judged-lattice P joins meets = record { joins = bounds-fit Join P .kept (sym joins); meets = bounds-fit Meet P .kept (sym meets) }
 
 -- what is known of a lattice behind a truncation
 pub lattice-of : (P : PartialOrder) → ∥ IsLattice P ∥₁ → IsLattice P
@@ -66,80 +69,42 @@ lattice-of P l = record {
 pub candidate-joined : (P : PartialOrder) → Joins P → (a b : ℕ) (r : Option ℕ) → Candidate P (a ∷ b ∷ []) r → Joined P (a ∷ b ∷ []) r
 candidate-joined P joins a b None p =
     λ known. ∥∥₁-elim (joins a b (known .0) (known .1 .0)) ⊥-prop (λ w. let found = p .first (w .0) (w .1) in let z : _≡_ {A = ℕ} 0 1 = cc in omega arith)
-candidate-joined P joins a b (Some c) p = record {
-  known = p .above .0;
-  upper = p .above .1;
-  least = λ d k u. ∥∥₁-elim (joins a b (P .known a c (p .above .1 .0) .0) (P .known b c (p .above .1 .1 .0) .0)) (Bool-set (P .flow c d) true)
-      (λ w. let found = p .first (w .0) (w .1) in let same : w .0 ≡ c = cc in subst (λ (x : ℕ). P .flow x d ≡ true) same (w .1 .least d k u));
-}
+candidate-joined P joins a b (Some c) p =
+    supremum-kept P (a ∷ b ∷ []) c (joins a b (P .known a c (p .above .1 .0) .0) (P .known b c (p .above .1 .1 .0) .0)) (p .above .0) (p .above .1) (p .first)
 
-pub decides-lattice : (rows : List ℕ) → Decides (isOk (rows-judged rows)) (LatticeRows rows)
-decides-lattice rows = decides-like (isOk (rows-judged rows)) there back (decides-ok (rows-judged rows))
-  where
-    judged : Bound → Judgement TableFault
-    judged w = bounds-judged w (length rows) (rows-flow rows)
-
-    there : rows-judged rows ≡ accepted → LatticeRows rows
-    there e =
-        let first = then-both (order-judged rows) (judged Join ⨟ judged Meet) e in
-        let second = then-both (judged Join) (judged Meet) (first .1) in
-        let o = decides-order rows .0 (decides-ok (order-judged rows) .1 (first .0)) in
-        let P = listed-order (length rows) rows (o .some) (o .few) ∣ o .ordered ∣₁ in
-        record { order = o; lattice = record { joins = joins-from-judged Join P (sym (second .0)); meets = joins-from-judged Meet P (sym (second .1)) } }
-
-    back : LatticeRows rows → rows-judged rows ≡ accepted
-    back l =
-        let P = listed-order (length rows) rows (l .order .some) (l .order .few) ∣ l .order .ordered ∣₁ in
-        then-ok (order-judged rows) (judged Join ⨟ judged Meet) (decides-ok (order-judged rows) .0 (decides-order rows .1 (l .order)))
-        ∙ then-ok (judged Join) (judged Meet) (judged-from-joins Join P (l .lattice .joins))
-        ∙ judged-from-joins Meet P (l .lattice .meets)
+pub lattice-fits : (rows : List ℕ) → Fits (rows-judged rows) (LatticeRows rows) (λ _. Unit {0})
+lattice-fits rows =
+    fits-as (λ k. record { order = k .0; lattice = record { joins = k .1 .0; meets = k .1 .1 } }) (λ l. (l .order, (l .lattice .joins, l .lattice .meets))) (λ _ _. tt)
+    (then-fits (order-fits rows) (λ o.
+    let P = listed-order (length rows) rows (o .some) (o .few) ∣ o .ordered ∣₁ in
+    then-fits (bounds-fit Join P) (λ _. bounds-fit Meet P)))
 
 -- a table that holds rows has their flow, and so their judgements
-pub held-flow : (rows : List ℕ) (count : ℕ) (table : List ℕ) → Holds rows count table → listed-flow count table ≡ rows-flow rows
+held-flow : (rows : List ℕ) (count : ℕ) (table : List ℕ) → Holds rows count table → listed-flow count table ≡ rows-flow rows
 held-flow rows count table h =
     ap (λ (n : ℕ). listed-flow n table) (h .counted) ∙ ap (listed-flow (length rows)) (h .stored) ∙ flow-more (length rows) rows (replicate (32 - length rows) 0) (omega arith)
 
-pub held-bounds : (w : Bound) (rows : List ℕ) (count : ℕ) (table : List ℕ) → Holds rows count table →
+held-bounds : (w : Bound) (rows : List ℕ) (count : ℕ) (table : List ℕ) → Holds rows count table →
     bounds-judged w count (listed-flow count table) ≡ bounds-judged w (length rows) (rows-flow rows)
 held-bounds w rows count table h =
     ap (bounds-judged w count) (held-flow rows count table h) ∙ ap (λ (n : ℕ). bounds-judged w n (rows-flow rows)) (h .counted)
 
--- what is answered by the judgement of rows keeps its law
-pub lattice-answer : (rows : List ℕ) (r : Judgement TableFault) → r ≡ rows-judged rows → Decides (isOk r) (LatticeRows rows)
-lattice-answer rows r e = subst (λ (j : Judgement TableFault). Decides (isOk j) (LatticeRows rows)) (sym e) (decides-lattice rows)
-
-module _ (rows : List ℕ) (count : ℕ) (table : List ℕ) (h : Holds rows count table) where
-  abbrev joined : Judgement TableFault
-  joined = bounds-judged Join count (listed-flow count table)
-
-  abbrev met : Judgement TableFault
-  met = bounds-judged Meet count (listed-flow count table)
-
-  -- rows that are an order are judged on by the bounds of the table
-  judged-on : order-judged rows ≡ accepted → rows-judged rows ≡ (joined ⨟ met)
-  judged-on ordered =
-      then-ok (order-judged rows) (bounds-judged Join (length rows) (rows-flow rows) ⨟ bounds-judged Meet (length rows) (rows-flow rows)) ordered
-      ∙ ap (λ (j : Judgement TableFault). j ⨟ bounds-judged Meet (length rows) (rows-flow rows)) (sym (held-bounds Join rows count table h))
-      ∙ ap (λ (j : Judgement TableFault). joined ⨟ j) (sym (held-bounds Meet rows count table h))
-
-  pub judged-no-join : order-judged rows ≡ accepted → (x : TableFault) → Err x ≡ joined → rows-judged rows ≡ Err x
-  judged-no-join ordered x e = judged-on ordered ∙ then-err joined met x (sym e)
-
-  pub judged-no-meet : order-judged rows ≡ accepted → accepted ≡ joined → (x : TableFault) → Err x ≡ met → rows-judged rows ≡ Err x
-  judged-no-meet ordered joins x e = judged-on ordered ∙ then-ok joined met (sym joins) ∙ sym e
-
-  pub judged-lattice : order-judged rows ≡ accepted → accepted ≡ joined → accepted ≡ met → rows-judged rows ≡ accepted
-  judged-lattice ordered joins meets = judged-on ordered ∙ then-ok joined met (sym joins) ∙ sym meets
-
-  -- a table that holds the rows of a lattice is a lattice
-  pub held-lattice : (some : 1 ≤ count) (few : count ≤ 32) (lawful : ∥ IsOrder count table ∥₁) → rows-judged rows ≡ accepted → IsLattice (listed-order count table some few lawful)
-  held-lattice some few lawful e =
-      let first = then-both (order-judged rows) (bounds-judged Join (length rows) (rows-flow rows) ⨟ bounds-judged Meet (length rows) (rows-flow rows)) e in
-      let second = then-both (bounds-judged Join (length rows) (rows-flow rows)) (bounds-judged Meet (length rows) (rows-flow rows)) (first .1) in
-      let P = listed-order count table some few lawful in
-      record { joins = joins-from-judged Join P (sym (held-bounds Join rows count table h ∙ second .0)); meets = joins-from-judged Meet P (sym (held-bounds Meet rows count table h ∙ second .1)) }
+-- rows that are an order are judged on by the bounds of the table
+pub judged-on : (rows : List ℕ) (count : ℕ) (table : List ℕ) → Holds rows count table → order-judged rows ≡ accepted → (j m : Judgement TableFault) →
+    j ≡ bounds-judged Join count (listed-flow count table) → m ≡ bounds-judged Meet count (listed-flow count table) → rows-judged rows ≡ (j ⨟ m)
+judged-on rows count table h ordered j m joins meets =
+    let judged = λ (w : Bound). bounds-judged w (length rows) (rows-flow rows) in
+    then-at (judged Join ⨟ judged Meet) ordered
+    ∙ sym (ap (λ (t : Judgement TableFault). j ⨟ t) (meets ∙ held-bounds Meet rows count table h) ∙ then-at (judged Meet) (joins ∙ held-bounds Join rows count table h))
 
 -- the row of the one label that flows to itself
-pub one-lattice : rows-judged (1 ∷ []) ≡ accepted
+one-bounded : (w : Bound) → bounds-judged w 1 (rows-flow (1 ∷ [])) ≡ accepted
 unfolding listed-flow bounded
-one-lattice = refl
+one-bounded Join = refl
+one-bounded Meet = refl
+
+-- a table that holds it is a lattice
+pub one-lattice : (count : ℕ) (table : List ℕ) → Holds (1 ∷ []) count table → (some : 1 ≤ count) (few : count ≤ 32) (lawful : ∥ IsOrder count table ∥₁) → IsLattice (listed-order count table some few lawful)
+one-lattice count table h some few lawful =
+    judged-lattice (listed-order count table some few lawful)
+    (sym (held-bounds Join (1 ∷ []) count table h ∙ one-bounded Join)) (sym (held-bounds Meet (1 ∷ []) count table h ∙ one-bounded Meet))

@@ -1,10 +1,8 @@
-pub mod Masks
+pub mod Sets
 pub mod Searches
 pub mod Flows
-pub mod Judgements
 pub mod Orders
 pub mod Padding
 pub mod Suprema
 pub mod Lattices
-pub mod Sets
 pub mod GradedBounds

@@ -1,9 +1,9 @@
-use mathlib.Core.Path.{_≡_, sym, ap, subst, _∙_}
-use mathlib.Core.List.{List, [], _∷_, _++_}
+use mathlib.Core.Path.{sym, ap, subst, _∙_}
+use mathlib.Core.List.{List, _++_}
 use Prim.Native.Nat.{ℕ, _+_}
 use Rattle.std.specs.Of.Vec.{vec-items}
 use Rattle.agreement.specs.Views.{listed, Lists}
-use Rattle.agreement.proofs.Listings.{Left, left-take, left-skip, left-all, lists}
+use Rattle.agreement.proofs.Listings.{left-take, left-skip, left-all, lists}
 use Rattle.agreement.proofs.views.items_up_to.Needs as need
 use Rattle.agreement.proofs.views.items_up_to.Needs.{then-flows·in-Continue-push, else-flows}
 
@@ -19,11 +19,9 @@ loop-number-again g c =
     let is = vec-items (c .loop-number .numbers) in
     elim (c .if-flows .came) [
       | then-flows·in-Continue-push w ↦
-          subst (λ (l : List ℕ). Left P (c .args .highest) xs (k + 1) l) (sym (ap vec-items (w .numbers-is) ∙ w .in-Continue-push .ensures tt .items))
+          simp (w .numbers-is, w .in-Continue-push .ensures tt .items)
           (left-take P (c .args .highest) xs k is (c .loop-number-test .taken) (sym (c .flows .ensures) ∙ w .if-flows .taken) (c .loop-number .inv))
-      | else-flows w ↦
-          subst (λ (l : List ℕ). Left P (c .args .highest) xs (k + 1) l) (sym (ap vec-items (w .numbers-is)))
-          (left-skip P (c .args .highest) xs k is (c .loop-number-test .taken) (sym (c .flows .ensures) ∙ w .if-flows .left) (c .loop-number .inv))
+      | else-flows w ↦ simp (w .numbers-is) (left-skip P (c .args .highest) xs k is (c .loop-number-test .taken) (sym (c .flows .ensures) ∙ w .if-flows .left) (c .loop-number .inv))
     ]
 
 pub returns : need.returns

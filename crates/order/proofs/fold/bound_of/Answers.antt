@@ -1,8 +1,7 @@
-use mathlib.Core.Path.{_≡_, sym, ap, subst, _∙_}
-use mathlib.Core.List.{List, [], _∷_}
-use Prim.Native.Nat.{ℕ, _<_}
+use mathlib.Core.Path.{sym, ap, subst, _∙_}
+use mathlib.Core.List.{List, _∷_}
+use Prim.Native.Nat.{ℕ}
 use native.Mathlib.Omega.{arith}
-use lib.ListN.{take}
 use Rattle.std.proofs.shelf.Lists.{nil-from-length, take-all}
 use Rattle.order.specs.Bounds.{Known, Supremum, toward}
 use Rattle.order.proofs.Suprema.{supremum-one, supremum-more, known-at, toward-count}
@@ -10,8 +9,7 @@ use Rattle.order.proofs.fold.bound_of.Needs as need
 
 pub returns-in-rest : need.returns-in-rest
 returns-in-rest g c =
-    let P = toward (c .args .which) (g .L·Order .meaning (c .args .lattice .now)) in
-    subst (λ (l : List ℕ). Supremum P l (c .bound-of-none .result)) (sym (nil-from-length (c .args .labels .now) (c .in-rest .ensures tt .cases))) (c .bound-of-none .ensures)
+    rw (nil-from-length (c .args .labels .now) (c .in-rest .ensures tt .cases)) (c .bound-of-none .ensures)
 
 pub returns-then-first-count : need.returns-then-first-count
 returns-then-first-count g c all =

@@ -1,33 +1,31 @@
-use mathlib.Core.Path.{sym, subst}
-use Prim.Native.Nat.{ℕ, _+_, _≤_, _<_}
+use mathlib.Core.Path.{sym}
 use native.Mathlib.Omega.{arith}
-use Rattle.std.specs.declared.option.Option.{Option}
+use Rattle.std.proofs.shelf.Ways.{not-from-decides}
 use Rattle.order.specs.Bounds.{toward}
-use Rattle.order.proofs.Suprema.{toward-count}
-use Rattle.tables.proofs.Suprema.{Passed, passed-none, passed-taken, passed-left, passed-all}
+use Rattle.order.proofs.Suprema.{passed-taken, passed-left, toward-count}
+use Rattle.tables.specs.Bounded.{better}
+use Rattle.tables.proofs.Suprema.{decides-better}
 use Rattle.tables.proofs.bounds.candidate.Needs as need
 use Rattle.tables.proofs.bounds.candidate.Needs.{then-is-better, else-is-better}
 
 pub loop-label-holds : need.loop-label-holds
-loop-label-holds g c = passed-none (toward (c .args .which) (g .O·Order .meaning (c .args .order .now))) (c .args .a) (c .args .b)
+loop-label-holds g c = record { above = tt; first = λ d l s. absurd (omega arith) }
 
 pub loop-label-again : need.loop-label-again
 loop-label-again g c =
     let Q = g .O·Order .meaning (c .args .order .now) in
     let P = toward (c .args .which) Q in
-    let a = c .args .a in
-    let b = c .args .b in
     let k = c .loop-label .label in
-    let known : k < P .count = omega (arith, toward-count (c .args .which) Q, c .count-label-end .ensures) in
-    let Kept : Option ℕ → Type 0 = λ best. Passed P a b (k + 1) best in
+    let decided = decides-better P (c .args .a) (c .args .b) k (c .loop-label .best) in
     elim (c .if-is-better .came) [
-      | then-is-better w ↦ subst Kept (sym (w .best-is)) (passed-taken P a b k (c .loop-label .best) known (w .if-is-better .ensures tt) (c .loop-label .inv))
-      | else-is-better w ↦ subst Kept (sym (w .best-is)) (passed-left P a b k (c .loop-label .best) (w .if-is-better .ensures tt) (c .loop-label .inv))
+      | then-is-better w ↦ simp (w .best-is)
+          (passed-taken (c .loop-label .inv) (omega (arith, toward-count (c .args .which) Q, c .count-label-end .ensures)) (decided .0 (sym (w .if-is-better .ensures tt))))
+      | else-is-better w ↦ simp (w .best-is)
+          (passed-left (c .loop-label .inv) (not-from-decides (better (P .flow) (c .args .a) (c .args .b) k (c .loop-label .best)) decided (sym (w .if-is-better .ensures tt))))
     ]
 
 pub returns : need.returns
 returns g c =
+    let passed = c .loop-label .inv in
     let Q = g .O·Order .meaning (c .args .order .now) in
-    let P = toward (c .args .which) Q in
-    let all : P .count ≤ c .loop-label .label = omega (arith, toward-count (c .args .which) Q, c .count-label-end .ensures) in
-    passed-all P (c .args .a) (c .args .b) (c .loop-label .label) (c .loop-label .best) all (c .loop-label .inv)
+    record { above = passed .above; first = λ d s. passed .first d (omega (arith, toward-count (c .args .which) Q, c .count-label-end .ensures, s .known)) s }

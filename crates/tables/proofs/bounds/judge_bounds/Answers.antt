@@ -1,7 +1,6 @@
-use Prim.Native.Nat.{_≤_, _<_}
 use native.Mathlib.Omega.{arith}
-use Rattle.tables.specs.Bounded.{bounded-at, each-after, each-pair}
-use Rattle.tables.proofs.Judgements.{left-none, left-more, left-break, left-all}
+use Rattle.refusal.proofs.Judging.{left-none, left-more, left-break, left-all}
+use Rattle.tables.specs.Bounded.{bounded-at, each-after}
 use Rattle.tables.proofs.bounds.judge_bounds.Needs as need
 
 pub loop-a-holds : need.loop-a-holds
@@ -11,22 +10,10 @@ loop-a-holds g c =
 
 pub returns-in-Break-judge-bounds-after : need.returns-in-Break-judge-bounds-after
 returns-in-Break-judge-bounds-after g c =
-    let P = g .O·Order .meaning (c .args .order .now) in
-    let f = bounded-at (c .args .which) (P .count) (P .flow) in
-    let known : c .loop-a .a < P .count = omega (arith, c .count-a-end .ensures) in
-    left-break (each-after f (P .count)) (each-pair f (P .count)) (c .loop-a .a) (P .count) (c .in-Break-judge-bounds-after .field-0 .0) (c .from-residual .result)
-    (c .loop-a .inv) known (c .in-Break-judge-bounds-after .ensures tt) (c .from-residual .ensures .1)
+    left-break (c .loop-a .inv) (c .from-residual .result) (omega (arith, c .count-a-end .ensures)) (c .in-Break-judge-bounds-after .ensures tt) (c .from-residual .ensures .1)
 
 pub loop-a-again : need.loop-a-again
-loop-a-again g c =
-    let P = g .O·Order .meaning (c .args .order .now) in
-    let f = bounded-at (c .args .which) (P .count) (P .flow) in
-    let known : c .loop-a .a < P .count = omega (arith, c .count-a-end .ensures) in
-    left-more (each-after f (P .count)) (each-pair f (P .count)) (c .loop-a .a) (P .count) (c .loop-a .inv) known (c .in-Continue-judge-bounds-after .ensures tt)
+loop-a-again g c = left-more (c .loop-a .inv) (omega (arith, c .count-a-end .ensures)) (c .in-Continue-judge-bounds-after .ensures tt)
 
 pub returns : need.returns
-returns g c =
-    let P = g .O·Order .meaning (c .args .order .now) in
-    let f = bounded-at (c .args .which) (P .count) (P .flow) in
-    let all : P .count ≤ c .loop-a .a = omega (arith, c .count-a-end .ensures) in
-    left-all (each-after f (P .count)) (each-pair f (P .count)) (c .loop-a .a) (P .count) (c .loop-a .inv) all
+returns g c = left-all (c .loop-a .inv) (omega (arith, c .count-a-end .ensures))

@@ -1,36 +1,24 @@
-use mathlib.Core.Path.{refl}
-use Prim.Native.Nat.{_≤_, _<_}
+use mathlib.Core.Path.{refl, ap, _∙_}
+use mathlib.Core.Bool.{true, false}
 use native.Mathlib.Omega.{arith}
-use Rattle.tables.specs.Bounded.{bounded-at, each-after}
-use Rattle.tables.proofs.Judgements.{left-more, left-err, left-all}
-use Rattle.tables.proofs.Suprema.{bound-found, bound-missing}
+use Rattle.std.specs.declared.result.Result.the-variants.{Err}
+use Rattle.refusal.proofs.Judging.{left-more, left-err, left-all}
+use Rattle.tables.proofs.Suprema.{bound-judged}
 use Rattle.tables.proofs.bounds.judge_bounds_after.Needs as need
 
 pub loop-b-holds : need.loop-b-holds
-loop-b-holds g c = refl
+loop-b-holds g c = record { same = refl }
 
 pub returns-then-not-has-bound : need.returns-then-not-has-bound
 returns-then-not-has-bound g c =
-    let P = g .O·Order .meaning (c .args .order .now) in
-    let a = c .args .a in
-    let b = c .loop-b .b in
-    let f = bounded-at (c .args .which) (P .count) (P .flow) in
-    let known : b < P .count = omega (arith, c .count-b-end .ensures) in
-    left-err (f a) (each-after f (P .count) a) b (P .count) (c .lacking-bound .result) (c .loop-b .inv) known
-    (bound-missing (c .args .which) P a b (c .lacking-bound .result) (c .lacking-bound .ensures) (c .if-not-has-bound .ensures tt))
+    ap Err (c .lacking-bound .ensures)
+    ∙ left-err (c .loop-b .inv) (omega (arith, c .count-b-end .ensures))
+    (bound-judged (c .args .which) (g .O·Order .meaning (c .args .order .now)) (c .args .a) (c .loop-b .b) false (c .if-not-has-bound .ensures tt))
 
 pub loop-b-again : need.loop-b-again
 loop-b-again g c =
-    let P = g .O·Order .meaning (c .args .order .now) in
-    let a = c .args .a in
-    let b = c .loop-b .b in
-    let f = bounded-at (c .args .which) (P .count) (P .flow) in
-    let known : b < P .count = omega (arith, c .count-b-end .ensures) in
-    left-more (f a) (each-after f (P .count) a) b (P .count) (c .loop-b .inv) known (bound-found (c .args .which) P a b (c .if-not-has-bound .ensures tt))
+    left-more (c .loop-b .inv) (omega (arith, c .count-b-end .ensures))
+    (bound-judged (c .args .which) (g .O·Order .meaning (c .args .order .now)) (c .args .a) (c .loop-b .b) true (c .if-not-has-bound .ensures tt))
 
 pub returns : need.returns
-returns g c =
-    let P = g .O·Order .meaning (c .args .order .now) in
-    let f = bounded-at (c .args .which) (P .count) (P .flow) in
-    let all : P .count ≤ c .loop-b .b = omega (arith, c .count-b-end .ensures) in
-    left-all (f (c .args .a)) (each-after f (P .count) (c .args .a)) (c .loop-b .b) (P .count) (c .loop-b .inv) all
+returns g c = left-all (c .loop-b .inv) (omega (arith, c .count-b-end .ensures))

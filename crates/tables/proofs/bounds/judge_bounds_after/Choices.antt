@@ -1,6 +1,4 @@
-use mathlib.Core.Path.{_≡_}
-use Prim.Native.Nat.{_-_}
-use Rattle.refusal.specs.Judging.{each-from}
+use Rattle.refusal.proofs.Judging.{Left}
 use Rattle.tables.specs.Bounded.{bounded-at, each-after}
 use Rattle.tables.proofs.bounds.judge_bounds_after.Given as given
 
@@ -8,4 +6,4 @@ abbrev pub Inv-loop-b : given.InvT-loop-b
 Inv-loop-b g l =
     let P = g .O·Order .meaning (l .order) in
     let f = bounded-at (l .which) (P .count) (P .flow) in
-    each-after f (P .count) (l .a) ≡ each-from (f (l .a)) (l .b) (P .count - l .b)
+    Left (f (l .a)) (each-after f (P .count) (l .a)) (P .count) (l .b)
