@@ -80,7 +80,7 @@ lattice-fits rows =
     then-fits (bounds-fit Join P) (λ _. bounds-fit Meet P)))
 
 -- a table that holds rows has their flow, and so their judgements
-held-flow : (rows : List ℕ) (count : ℕ) (table : List ℕ) → Holds rows count table → listed-flow count table ≡ rows-flow rows
+pub held-flow : (rows : List ℕ) (count : ℕ) (table : List ℕ) → Holds rows count table → listed-flow count table ≡ rows-flow rows
 held-flow rows count table h =
     ap (λ (n : ℕ). listed-flow n table) (h .counted) ∙ ap (listed-flow (length rows)) (h .stored) ∙ flow-more (length rows) rows (replicate (32 - length rows) 0) (omega arith)
 
