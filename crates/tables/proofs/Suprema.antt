@@ -1,5 +1,5 @@
 -- Whether a label is better than the best upper one so far, and whether two labels have a least upper one. Assumes nothing.
-use mathlib.Core.Path.{_≡_, refl, subst, _∙_}
+use mathlib.Core.Path.{_≡_, sym, refl, subst, _∙_}
 use mathlib.Core.Bool.{Bool, true, false, not, _&&_, _||_}
 use mathlib.Core.List.{[], _∷_}
 use Prim.Native.Nat.{ℕ, _<_}
@@ -45,6 +45,13 @@ module _ (P : PartialOrder) (a b : ℕ) where
       (λ w. (w .0, w .1 .known, (w .1 .upper, w .1 .least)))
       (decides-any (λ c. upper (P .flow) a b c && least-in P a b c) (λ c. Upper P (a ∷ b ∷ []) c × Least c)
       (λ c. decides-and (upper (P .flow) a b c) (least-in P a b c) (decides-upper c) (decides-least c)) (P .count))
+
+  -- of two labels of which one flows to the other, that is the bound
+  pub bounded-above : P .flow a b ≡ true → true ≡ bounded-in P a b
+  bounded-above f = sym (decides-bounded .1 (b, record { known = P .known a b f .1; upper = (f, (P .reflexive b (P .known a b f .1), tt)); least = λ d k u. u .1 .0 }))
+
+  pub bounded-below : P .flow b a ≡ true → true ≡ bounded-in P a b
+  bounded-below f = sym (decides-bounded .1 (a, record { known = P .known b a f .1; upper = (P .reflexive a (P .known b a f .1), (f, tt)); least = λ d k u. u .0 }))
 
   -- a pass that found nothing
   pub candidate-none : Candidate P (a ∷ b ∷ []) None → false ≡ bounded-in P a b

@@ -66,10 +66,16 @@ fn is_least<O: Order>(order: &O, which: Bound, a: u64, b: u64, label: u64) -> bo
     true
 }
 
-// Whether labels a and b have the bound.
+// Whether labels a and b have the bound. If one flows to the other, that is their bound.
 fn has_bound<O: Order>(order: &O, which: Bound, a: u64, b: u64) -> bool
     ensures { λ r. ⌜ r ≡ bounded-in (toward which (O·Order .meaning (now (order .entry)))) a b ⌝ }
 {
+    if flows_toward(order, which, a, b) {
+        return true;
+    }
+    if flows_toward(order, which, b, a) {
+        return true;
+    }
     match candidate(order, which, a, b) {
         None => false,
         Some(label) => is_least(order, which, a, b, label),
