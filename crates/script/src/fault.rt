@@ -11,20 +11,27 @@ pub struct ScriptFault {
     pub fault: FieldFault,
 }
 
+// What a fault in a field is refused with.
+pub fn field_refusal(fault: FieldFault) -> Refusal
+    ensures { λ r. ⌜ r ≡ field-refusal fault ⌝ }
+{
+    let (number, p, q) = match fault {
+        FieldFault::Lacking { at } => (1, at, 0),
+        FieldFault::NotAllowed { at, value } => (2, at, value),
+    };
+    Refusal {
+        number,
+        side: None,
+        p,
+        q,
+    }
+}
+
 impl ScriptFault {
     // What is refused, apart from the line.
     pub fn refusal(&self) -> Refusal
         ensures { λ r. ⌜ r ≡ field-refusal (now (self .entry) .fault) ⌝ }
     {
-        let (number, p, q) = match self.fault {
-            FieldFault::Lacking { at } => (1, at, 0),
-            FieldFault::NotAllowed { at, value } => (2, at, value),
-        };
-        Refusal {
-            number,
-            side: None,
-            p,
-            q,
-        }
+        field_refusal(self.fault)
     }
 }

@@ -4,3 +4,4 @@ pub mod Houses
 pub mod Padding
 pub mod Slices
 pub mod Steps
+pub mod Alone

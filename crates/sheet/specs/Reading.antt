@@ -4,7 +4,7 @@ use mathlib.Core.Bool.{Bool, false, _&&_, cond}
 use mathlib.Core.List.{List, _++_}
 use Prim.Native.Nat.{ℕ, _-_, _≤_, _<_}
 use lib.Dec.{eqb, ltb, leb}
-use lib.ListN.{length, drop, replicate}
+use lib.ListN.{length, getD, drop, replicate}
 use Rattle.std.specs.Results.{Cases}
 use Rattle.std.specs.declared.result.Result.{Result}
 use Rattle.std.specs.declared.result.Result.the-variants.{Ok, Err}
@@ -56,3 +56,12 @@ Reads-sheet bytes r =
 -- whatever parts and lines the bytes are the writing of, these parts are answered
 abbrev pub Is-read : List ℕ → Result Sheet SheetFault → Type 0
 Is-read bytes r = (parts : Parts) (ls : List Line) → Sheet-of bytes parts ls → Cases r (λ s. s .parts ≡ parts) (λ _. ⊥)
+
+-- every element is a byte
+abbrev pub Are-bytes : List ℕ → Type 0
+Are-bytes bytes = (i : ℕ) → getD bytes i 0 < 256
+
+-- no other bytes are the writing of the same parts and lines
+abbrev pub Alone : List ℕ → Type 0
+Alone bytes =
+    (parts : Parts) (ls : List Line) (others : List ℕ) → Are-bytes others → Sheet-of others parts ls → Sheet-of bytes parts ls → others ≡ bytes

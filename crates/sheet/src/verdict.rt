@@ -1,24 +1,8 @@
 ghost use mathlib.Core.Path.{_≡_};
 ghost use Rattle.sheet.specs.Verdicts.{sheet-refusal, sheet-line};
 use crate::fault::SheetFault;
-use format::FieldFault;
 use refusal::Refusal;
-
-// What a fault in a field is refused with.
-fn field_refusal(fault: FieldFault) -> Refusal
-    ensures { λ r. ⌜ r ≡ sheet-refusal (SheetFault.Field fault) ⌝ }
-{
-    let (number, p, q) = match fault {
-        FieldFault::Lacking { at } => (1, at, 0),
-        FieldFault::NotAllowed { at, value } => (2, at, value),
-    };
-    Refusal {
-        number,
-        side: None,
-        p,
-        q,
-    }
-}
+use script::field_refusal;
 
 impl SheetFault {
     // What the sheet is refused with, apart from the line.
@@ -33,7 +17,7 @@ impl SheetFault {
                 q: 0,
             },
             SheetFault::Field(fault) => field_refusal(fault),
-            SheetFault::Script(fault) => field_refusal(fault.fault),
+            SheetFault::Script(fault) => fault.refusal(),
             SheetFault::Trailing { at } => Refusal {
                 number: 3,
                 side: None,

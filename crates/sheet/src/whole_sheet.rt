@@ -5,7 +5,7 @@ ghost use Rattle.std.specs.Results.{Cases};
 ghost use Rattle.std.specs.Vec.{made};
 ghost use Rattle.bits.specs.Bits.{all-bits};
 ghost use Rattle.script.specs.declared.line.Line.{Line};
-ghost use Rattle.sheet.specs.Reading.{only-padding, Reads-sheet, Sheet-of, Is-read};
+ghost use Rattle.sheet.specs.Reading.{only-padding, Reads-sheet, Sheet-of, Is-read, Alone};
 use crate::fault::FromField;
 use crate::fault::FromScript;
 use crate::fault::SheetFault;
@@ -54,11 +54,12 @@ fn whole(bytes: &[u8]) -> Result<Sheet, SheetFault>
 }
 
 // Reads a sheet: without a fault exactly if its bits are those of some parts and lines as the format writes them, with
-// fewer than 8 zero bits behind them; and the parts read are those.
+// fewer than 8 zero bits behind them; and the parts read are those. No two sheets are read alike.
 pub fn read_sheet(bytes: &[u8]) -> Result<Sheet, SheetFault>
     ensures value { λ r. ⌜ Reads-sheet (now (bytes .entry)) r ⌝ }
     ensures written { λ r. ⌜ made r (λ s. (ls : List Line) × Sheet-of (now (bytes .entry)) (s .parts) ls) ⌝ }
     ensures back { λ r. ⌜ Is-read (now (bytes .entry)) r ⌝ }
+    ensures alone { λ _. ⌜ Alone (now (bytes .entry)) ⌝ }
 {
     whole(bytes)
 }

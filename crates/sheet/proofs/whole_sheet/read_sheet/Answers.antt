@@ -1,4 +1,5 @@
 use Rattle.sheet.proofs.Laws.{sheet-written, sheet-back}
+use Rattle.sheet.proofs.Alone.{alone}
 use Rattle.sheet.proofs.whole_sheet.read_sheet.Needs as need
 
 pub returns : need.returns
@@ -7,4 +8,5 @@ returns c =
       value = c .whole .ensures;
       written = sheet-written (c .args .bytes .now) (c .whole .result) (c .whole .ensures);
       back = sheet-back (c .args .bytes .now) (c .whole .result) (c .whole .ensures);
+      alone = alone (c .args .bytes .now) (λ i. c .typed .bytes i .fits);
     }
