@@ -1,6 +1,9 @@
 // Bounds at listed and graded lattices, and at layers piled on them: one text for all.
+use agreement::Agreement;
+use agreement::certify;
 use order::Bound;
 use order::Lattice;
+use order::Order;
 use order::Reversed;
 use order::ReversedLattice;
 use order::ReversedOrder;
@@ -61,4 +64,36 @@ fn listed_and_reversed() -> Result<(), Fail> {
     check(listed.write(&[0b0001, 0b0011, 0b0101, 0b1111]).is_ok())?;
     bounds_are(&listed, 3, 0, [1, 2], 0, 3)?;
     bounds_are(&Reversed { inner: listed }, 0, 3, [1, 2], 3, 0)
+}
+
+fn refused_number<N: Order, F: Order>(near: &N, far: &F) -> Option<u8> {
+    let agreement = Agreement {
+        out: &[0, 0],
+        back: &[0, 0],
+        near_items: &[],
+        far_items: &[],
+    };
+    match certify(near, far, &agreement) {
+        Ok(()) => None,
+        Err(fault) => Some(fault.refusal().number),
+    }
+}
+
+// All to label 0 falls in chains that flow upward, and is a connection where both are turned round.
+#[test]
+fn certified_at_layers() -> Result<(), Fail> {
+    let mut listed = Listed::new();
+    check(listed.write(&[0b11, 0b10]).is_ok())?;
+    let Ok(graded) = Graded::new(2, 0) else {
+        return Err(Fail::new("within the limits"));
+    };
+    check_eq(refused_number(&listed, &graded), Some(9))?;
+    let near = Reversed { inner: listed };
+    let far = Reversed { inner: graded };
+    check_eq(refused_number(&near, &far), None)?;
+    check_eq(refused_number(&far, &near), None)?;
+    check_eq(
+        refused_number(&Reversed { inner: near }, &Reversed { inner: far }),
+        Some(9),
+    )
 }
