@@ -3,6 +3,4 @@ mod reader;
 
 pub use reader::Lacking;
 pub use reader::LackingDebug;
-pub use reader::LackingEq;
-pub use reader::LackingPartialEq;
 pub use reader::Reader;

@@ -7,7 +7,7 @@ ghost use Rattle.bits.specs.Bits.{all-bits, field-read, number, piece};
 ghost use Rattle.std.specs.declared.result.Result.the-variants.{Ok, Err};
 
 // A field that needs more bits than remain, by its first bit.
-#[derive(Clone, Copy, PartialEq, Eq, Debug)]
+#[derive(Clone, Copy, Debug)]
 pub struct Lacking {
     pub at: u128,
 }

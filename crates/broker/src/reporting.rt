@@ -188,7 +188,7 @@ fn refused<N: Order, F: Order>(
 }
 
 // The maps, the verdict, and what follows from it.
-pub fn report<N: Order, F: Order>(
+pub(crate) fn report<N: Order, F: Order>(
     rt: &LibcRuntime,
     near: &N,
     far: &F,

@@ -3,7 +3,7 @@ ghost use Rattle.format.specs.declared.fault.FieldFault.the-variants.{Lacking 
 use bits::Lacking;
 
 // A field that cannot be read: too few bits remain, or its value is outside its limits. Both name its first bit.
-#[derive(Clone, Copy, PartialEq, Eq, Debug)]
+#[derive(Clone, Copy, Debug)]
 pub enum FieldFault {
     Lacking { at: u128 },
     NotAllowed { at: u128, value: u64 },

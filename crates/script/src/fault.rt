@@ -1,7 +1,8 @@
 ghost use mathlib.Core.Path.{_≡_};
-ghost use Rattle.script.specs.Faults.{field-refusal};
+ghost use Rattle.format.specs.Faults.{field-refusal};
 use format::FieldFault;
 use format::FieldFaultDebug;
+use format::field_refusal;
 use refusal::Refusal;
 
 // A fault in reading a script, with its line, from 1; line 0 is the number of lines itself.
@@ -9,22 +10,6 @@ use refusal::Refusal;
 pub struct ScriptFault {
     pub line: u64,
     pub fault: FieldFault,
-}
-
-// What a fault in a field is refused with.
-pub fn field_refusal(fault: FieldFault) -> Refusal
-    ensures { λ r. ⌜ r ≡ field-refusal fault ⌝ }
-{
-    let (number, p, q) = match fault {
-        FieldFault::Lacking { at } => (1, at, 0),
-        FieldFault::NotAllowed { at, value } => (2, at, value),
-    };
-    Refusal {
-        number,
-        side: None,
-        p,
-        q,
-    }
 }
 
 impl ScriptFault {

@@ -5,7 +5,6 @@ mod reading;
 
 pub use fault::ScriptFault;
 pub use fault::ScriptFaultDebug;
-pub use fault::field_refusal;
 pub use line::Assignment;
 pub use line::Batch;
 pub use line::Line;

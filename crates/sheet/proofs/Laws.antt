@@ -13,7 +13,6 @@ use Rattle.std.proofs.shelf.Tests.{and-parts, and-from, ltb-true, lt-ltb, eqb-t
 use Rattle.std.specs.declared.result.Result.{Result}
 use Rattle.std.specs.declared.result.Result.the-variants.{Ok, Err}
 use Rattle.bits.specs.Bits.{all-bits, number, bit}
-use Rattle.std.specs.Vec.{made}
 use Rattle.format.specs.Formats.{Format, Reading, followed, under, inside, read, write, Writes}
 use Rattle.format.specs.declared.fault.FieldFault.{FieldFault}
 use Rattle.script.specs.declared.fault.ScriptFault.{ScriptFault}
@@ -22,7 +21,7 @@ use Rattle.format.proofs.Laws.{was-written, read-back}
 use Rattle.script.specs.Scripts.{script}
 use Rattle.script.specs.declared.line.Line.{Line}
 use Rattle.sheet.specs.Sheets.{front, sheet}
-use Rattle.sheet.specs.Reading.{only-padding, Found, ended, bits-read, sheet-read, Sheet-of, Reads-sheet, Is-read}
+use Rattle.sheet.specs.Reading.{only-padding, Found, ended, bits-read, sheet-read, Sheet-of, Reads-sheet, Is-written, Is-read}
 use Rattle.sheet.specs.declared.fault.SheetFault.{SheetFault}
 use Rattle.sheet.specs.declared.fault.SheetFault.the-variants.{TooLong, Field, Script, Trailing}
 use Rattle.sheet.specs.declared.parts.Parts.{Parts}
@@ -161,15 +160,15 @@ module _ (bytes : List ℕ) (short : length bytes ≤ 19659) where
         ∙ ap (λ r. followed (under Script r) (λ lines q. ended (all-bits bytes) parts p lines q)) h
 
 -- the two promises of reading, from its answer
-pub sheet-written : (bytes : List ℕ) (r : Result Sheet SheetFault) → Reads-sheet bytes r → made r (λ s. (ls : List Line) × Sheet-of bytes (s .parts) ls)
-sheet-written bytes (Ok s) reads = (reads .0, read-is-written bytes (s .parts) (s .script) (reads .0) (reads .1) (reads .2))
+pub sheet-written : (bytes : List ℕ) (r : Result Sheet SheetFault) → Reads-sheet bytes r → Is-written bytes r
+sheet-written bytes (Ok s) reads = (reads .0, read-is-written bytes (s .parts) (s .script) (reads .0) (reads .1) (reads .2), reads .3)
 sheet-written bytes (Err e) reads = tt
 
 pub sheet-back : (bytes : List ℕ) (r : Result Sheet SheetFault) → Reads-sheet bytes r → Is-read bytes r
 sheet-back bytes (Ok s) reads parts ls is =
     let back = written-is-read bytes parts ls is in
     let same : _≡_ {A = Found × ℕ} ((s .parts, (s .script, reads .0)), reads .1) ((parts, (back .0, ls)), back .1) = cc (reads .2, back .2) in
-    ap (λ (x : Found × ℕ). x .0 .0) same
+    (ap (λ (x : Found × ℕ). x .0 .0) same, ap (λ (x : Found × ℕ). length (x .0 .1 .1)) (sym same) ∙ reads .3)
 sheet-back bytes (Err e) reads parts ls is =
     let back = written-is-read bytes parts ls is in
     let z : _≡_ {A = ℕ} 0 1 = cc (reads, back .2) in

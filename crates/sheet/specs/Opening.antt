@@ -51,7 +51,8 @@ Judged-so parts (Trailing at) = ⊥
 Judged-so parts (House Near f) = house-judged (parts .near) ≡ Err f
 Judged-so parts (House Far f) = (house-judged (parts .near) ≡ accepted) × (house-judged (parts .far) ≡ Err f)
 Judged-so parts (Agreement f) =
-    (N : PartialOrder) × (F : PartialOrder) × Means N (parts .near) × Means F (parts .far) × (certified (described N F parts) ≡ Err f)
+    (house-judged (parts .near) ≡ accepted) × (house-judged (parts .far) ≡ accepted)
+    × (N : PartialOrder) × (F : PartialOrder) × Means N (parts .near) × Means F (parts .far) × (certified (described N F parts) ≡ Err f)
 
 -- it cannot be read, or it was read and then judged so
 abbrev pub Refused-for : List ℕ → SheetFault → Type 0

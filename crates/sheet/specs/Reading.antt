@@ -6,6 +6,7 @@ use Prim.Native.Nat.{ℕ, _-_, _≤_, _<_}
 use lib.Dec.{eqb, ltb, leb}
 use lib.ListN.{length, getD, drop, replicate}
 use Rattle.std.specs.Results.{Cases}
+use Rattle.std.specs.Vec.{made}
 use Rattle.std.specs.declared.result.Result.{Result}
 use Rattle.std.specs.declared.result.Result.the-variants.{Ok, Err}
 use Rattle.bits.specs.Bits.{all-bits, number}
@@ -36,13 +37,17 @@ bits-read bits =
     followed (read (inside Field front) bits 0) (λ parts p.
     followed (read (inside Script script) bits p) (λ lines q. ended bits parts p lines q))
 
--- a sheet of bytes, of which there are at most 19659
+-- the most bytes that a sheet has
+abbrev pub most-bytes : ℕ
+most-bytes = 19659
+
+-- a sheet of bytes, of which there are not too many
 unfoldable pub sheet-read : List ℕ → Reading SheetFault Found
-sheet-read bytes = cond (leb (length bytes) 19659) (bits-read (all-bits bytes)) (Err TooLong)
+sheet-read bytes = cond (leb (length bytes) most-bytes) (bits-read (all-bits bytes)) (Err TooLong)
 
 -- the bytes are these parts and lines as the format writes them, with fewer than 8 zero bits behind them
 pub record Sheet-of (bytes : List ℕ) (parts : Parts) (lines : List Line) : Type 0 where
-  pub short : length bytes ≤ 19659
+  pub short : length bytes ≤ most-bytes
   pub can : Writes sheet (parts, lines)
   pub zeros : ℕ
   pub few : zeros < 8
@@ -53,9 +58,13 @@ abbrev pub Reads-sheet : List ℕ → Result Sheet SheetFault → Type 0
 Reads-sheet bytes r =
     Cases r (λ s. (ls : List Line) × (q : ℕ) × (sheet-read bytes ≡ Ok ((s .parts, (s .script, ls)), q)) × (length ls ≡ s .lines)) (λ e. sheet-read bytes ≡ Err e)
 
--- whatever parts and lines the bytes are the writing of, these parts are answered
+-- whatever parts and lines the bytes are the writing of, these parts and so many lines are answered
 abbrev pub Is-read : List ℕ → Result Sheet SheetFault → Type 0
-Is-read bytes r = (parts : Parts) (ls : List Line) → Sheet-of bytes parts ls → Cases r (λ s. s .parts ≡ parts) (λ _. ⊥)
+Is-read bytes r = (parts : Parts) (ls : List Line) → Sheet-of bytes parts ls → Cases r (λ s. (s .parts ≡ parts) × (length ls ≡ s .lines)) (λ _. ⊥)
+
+-- the parts that are answered, and as many lines as are answered, are what the bytes are the writing of
+abbrev pub Is-written : List ℕ → Result Sheet SheetFault → Type 0
+Is-written bytes r = made r (λ s. (ls : List Line) × Sheet-of bytes (s .parts) ls × (length ls ≡ s .lines))
 
 -- every element is a byte
 abbrev pub Are-bytes : List ℕ → Type 0

@@ -2,7 +2,7 @@
 use Prim.Native.Nat.{ℕ}
 use Rattle.std.specs.declared.option.Option.the-variants.{Some, None}
 use Rattle.refusal.specs.declared.Refusal.{Refusal}
-use Rattle.script.specs.Faults.{field-refusal}
+use Rattle.format.specs.Faults.{field-refusal}
 use Rattle.tables.specs.Faults.{refusal-of}
 use Rattle.agreement.specs.Faults.{fault-refusal}
 use Rattle.sheet.specs.declared.fault.SheetFault.{SheetFault}

@@ -17,4 +17,5 @@ pub use parts::Items;
 pub use parts::Opened;
 pub use parts::Parts;
 pub use parts::Sheet;
+pub use whole_sheet::MOST_BYTES;
 pub use whole_sheet::read_sheet;

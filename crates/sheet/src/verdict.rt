@@ -1,8 +1,8 @@
 ghost use mathlib.Core.Path.{_≡_};
 ghost use Rattle.sheet.specs.Verdicts.{sheet-refusal, sheet-line};
 use crate::fault::SheetFault;
+use format::field_refusal;
 use refusal::Refusal;
-use script::field_refusal;
 
 impl SheetFault {
     // What the sheet is refused with, apart from the line.

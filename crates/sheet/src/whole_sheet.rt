@@ -1,11 +1,6 @@
 ghost use mathlib.Core.Path.{_≡_};
-ghost use mathlib.Core.List.{List};
-ghost use lib.ListN.{length};
-ghost use Rattle.std.specs.Results.{Cases};
-ghost use Rattle.std.specs.Vec.{made};
 ghost use Rattle.bits.specs.Bits.{all-bits};
-ghost use Rattle.script.specs.declared.line.Line.{Line};
-ghost use Rattle.sheet.specs.Reading.{only-padding, Reads-sheet, Sheet-of, Is-read, Alone};
+ghost use Rattle.sheet.specs.Reading.{only-padding, Reads-sheet, Is-written, Is-read, Alone};
 use crate::fault::FromField;
 use crate::fault::FromScript;
 use crate::fault::SheetFault;
@@ -15,7 +10,7 @@ use bits::Reader;
 use script::read_script;
 
 // The most bytes that a sheet has.
-const MOST_BYTES: usize = 19_659;
+pub const MOST_BYTES: usize = 19_659;
 
 // Whether fewer than 8 bits stand from a bit on, all zero.
 fn only_padding(bytes: &[u8], at: u128) -> bool
@@ -54,10 +49,10 @@ fn whole(bytes: &[u8]) -> Result<Sheet, SheetFault>
 }
 
 // Reads a sheet: without a fault exactly if its bits are those of some parts and lines as the format writes them, with
-// fewer than 8 zero bits behind them; and the parts read are those. No two sheets are read alike.
+// fewer than 8 zero bits behind them; and the parts read are those. No other bytes are the writing of the same.
 pub fn read_sheet(bytes: &[u8]) -> Result<Sheet, SheetFault>
     ensures value { λ r. ⌜ Reads-sheet (now (bytes .entry)) r ⌝ }
-    ensures written { λ r. ⌜ made r (λ s. (ls : List Line) × Sheet-of (now (bytes .entry)) (s .parts) ls) ⌝ }
+    ensures written { λ r. ⌜ Is-written (now (bytes .entry)) r ⌝ }
     ensures back { λ r. ⌜ Is-read (now (bytes .entry)) r ⌝ }
     ensures alone { λ _. ⌜ Alone (now (bytes .entry)) ⌝ }
 {

@@ -65,7 +65,12 @@ fn view_items(
     Ok(true)
 }
 
-pub fn one_view(rt: &LibcRuntime, opened: &Opened, side: Side, label: u64) -> Result<(), AnyError> {
+pub(crate) fn one_view(
+    rt: &LibcRuntime,
+    opened: &Opened,
+    side: Side,
+    label: u64,
+) -> Result<(), AnyError> {
     if !view_items(rt, "", opened, side, label)? {
         return Err(usage(rt, "the house has no such LABEL"));
     }
@@ -82,7 +87,7 @@ fn house_views(rt: &LibcRuntime, opened: &Opened, side: Side, labels: u64) -> Re
     Ok(())
 }
 
-pub fn every_view(rt: &LibcRuntime, opened: &Opened) -> Result<(), AnyError> {
+pub(crate) fn every_view(rt: &LibcRuntime, opened: &Opened) -> Result<(), AnyError> {
     house_views(rt, opened, Side::Near, opened.near.count())?;
     house_views(rt, opened, Side::Far, opened.far.count())
 }

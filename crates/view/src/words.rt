@@ -4,13 +4,13 @@ use std::env;
 use std::error::AnyError;
 
 #[derive(Clone, Copy)]
-pub enum Question {
+pub(crate) enum Question {
     Every,
     One { side: Side, label: u64 },
 }
 
 // What is said of a wrong call.
-pub fn usage(rt: &LibcRuntime, wrong: &str) -> AnyError {
+pub(crate) fn usage(rt: &LibcRuntime, wrong: &str) -> AnyError {
     let _ = eprintln!(
         rt,
         "usage: view [HOUSE LABEL] < SHEET, where HOUSE is near or far"
@@ -28,7 +28,7 @@ fn house_word(word: &str) -> Option<Side> {
     }
 }
 
-pub fn asked_question(rt: &LibcRuntime) -> Result<Question, AnyError> {
+pub(crate) fn asked_question(rt: &LibcRuntime) -> Result<Question, AnyError> {
     let mut words = env::args(rt)?;
     let _program = words.next();
     let Some(house) = words.next() else {

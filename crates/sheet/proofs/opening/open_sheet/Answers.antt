@@ -36,7 +36,7 @@ returns-in-Break-certify c =
     (inr (
       c .in-Continue-sheet .sheet,
       c .in-Continue-sheet .ensures tt .value,
-      (N, F, c .in-Continue-near .ensures tt .1, c .in-Continue-far .ensures tt .1, ap certified (sym same) ∙ sym (c .in-Break-certify .ensures tt .verdict)),
+      (c .in-Continue-near .ensures tt .0, c .in-Continue-far .ensures tt .0, N, F, c .in-Continue-near .ensures tt .1, c .in-Continue-far .ensures tt .1, ap certified (sym same) ∙ sym (c .in-Break-certify .ensures tt .verdict)),
     ))
 
 pub returns : need.returns
