@@ -5,7 +5,8 @@ use mathlib.Core.List.{List, [], _∷_}
 use Prim.Native.Nat.{ℕ, suc, _<_}
 use lib.ListN.{length, getD}
 use Rattle.std.specs.declared.option.Option.{Option}
-use Rattle.std.specs.declared.option.Option.the-variants.{Some}
+use Rattle.std.specs.Options.{Cases}
+use Rattle.std.specs.declared.option.Option.the-variants.{Some, None}
 use Rattle.refusal.specs.Sides.{other}
 use Rattle.refusal.specs.declared.Side.{Side}
 use Rattle.refusal.specs.declared.Side.the-variants.{Near, Far}
@@ -39,3 +40,18 @@ pub record Lists (P : PartialOrder) (highest : ℕ) (xs : List Item) (is : List 
   pub sound : (k : ℕ) → k < length is → (getD is k 0 < length xs) × (P .flow (getD xs (getD is k 0) no-item .label) highest ≡ true)
   pub complete : (i : ℕ) → i < length xs → P .flow (getD xs i no-item .label) highest ≡ true → (k : ℕ) × (k < length is) × (getD is k 0 ≡ i)
   pub ascending : (k : ℕ) → suc k < length is → getD is k 0 < getD is (suc k) 0
+
+-- the highest label of a view in a house
+abbrev pub highest-in : View → Side → ℕ
+highest-in v Near = v .near
+highest-in v Far = v .far
+
+-- the list has exactly the items of one house that are in the view
+abbrev pub Lists-house : Joint → View → Side → List ℕ → Type 0
+Lists-house J v house is = Lists (J .order house) (highest-in v house) (J .items house) is
+
+-- r is the list of the items of one house in the view of a label, and absent exactly where there is no view
+abbrev pub Lists-view : Joint → Side → ℕ → Side → Option (List ℕ) → Type 0
+Lists-view J s c house r =
+    Cases r (view-in J s c ≡ None)
+    (λ is. (v : View) × (view-in J s c ≡ Some v) × Lists-house J v house is)

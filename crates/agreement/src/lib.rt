@@ -24,5 +24,6 @@ pub use rules::rising;
 pub use rules::stable;
 pub use rules::total;
 pub use views::View;
+pub use views::items_in_view;
 pub use views::items_up_to;
 pub use views::view_of;

@@ -1,8 +1,9 @@
 ghost use mathlib.Core.Path.{_≡_};
+ghost use Rattle.std.specs.Options.{mapped};
 ghost use Rattle.std.specs.Of.Vec.{vec-items};
 ghost use Rattle.std.specs.Vec.{made};
 ghost use Rattle.agreement.specs.Agreements.{agreed};
-ghost use Rattle.agreement.specs.Views.{view-in, listed, Lists};
+ghost use Rattle.agreement.specs.Views.{view-in, listed, Lists, Lists-house, Lists-view};
 use crate::certification::Agreement;
 use crate::item::Item;
 use crate::map::image;
@@ -65,4 +66,40 @@ pub fn items_up_to<O: Order>(
         }
     }
     Ok(numbers)
+}
+
+// The items of one house in a view.
+fn house_items<N: Order, F: Order>(
+    heap: Global,
+    near: &N,
+    far: &F,
+    agreement: &Agreement<'_>,
+    view: View,
+    house: Side,
+) -> Result<Vec<u64>, AllocError>
+    ensures { λ r. ⌜ made r (λ v. Lists-house (agreed (N·Order .meaning (now (near .entry))) (F·Order .meaning (now (far .entry))) (now (agreement .entry))) view house (vec-items v)) ⌝ }
+{
+    match house {
+        Side::Near => items_up_to(heap, near, view.near, agreement.near_items),
+        Side::Far => items_up_to(heap, far, view.far, agreement.far_items),
+    }
+}
+
+// The items of a house that somebody cleared for a label may come to depend on, by number; absent where the label has
+// no view.
+pub fn items_in_view<N: Order, F: Order>(
+    heap: Global,
+    near: &N,
+    far: &F,
+    agreement: &Agreement<'_>,
+    side: Side,
+    label: u64,
+    house: Side,
+) -> Result<Option<Vec<u64>>, AllocError>
+    ensures { λ r. ⌜ made r (λ o. Lists-view (agreed (N·Order .meaning (now (near .entry))) (F·Order .meaning (now (far .entry))) (now (agreement .entry))) side label house (mapped vec-items o)) ⌝ }
+{
+    let Some(view) = view_of(near, far, agreement, side, label) else {
+        return Ok(None);
+    };
+    Ok(Some(house_items(heap, near, far, agreement, view, house)?))
 }
