@@ -2,13 +2,11 @@
 use agreement::Agreement;
 use agreement::Broken;
 use agreement::Fault;
-use agreement::Item;
 use agreement::Role;
 use agreement::certify;
-use agreement::items_up_to;
+use agreement::items_in_view;
 use agreement::round_trip;
 use agreement::settled;
-use agreement::view_of;
 use order::Order;
 use refusal::Side;
 use std::error::AnyError;
@@ -45,17 +43,26 @@ fn settled_lines<P: Order, Q: Order>(
     Ok(())
 }
 
-// The items of one house that a view holds.
-fn item_lines<O: Order>(
+// The items of one house in the view of a label.
+fn item_lines<N: Order, F: Order>(
     rt: &LibcRuntime,
-    reader: &str,
+    near: &N,
+    far: &F,
+    agreement: &Agreement<'_>,
     side: Side,
-    order: &O,
-    highest: u64,
-    items: &[Item],
+    label: u64,
+    house: Side,
 ) -> Result<(), AnyError> {
-    let house = side.word();
-    for number in items_up_to(rt.alloc(), order, highest, items)?.iter() {
+    let reader = side.word();
+    let word = house.word();
+    let items = match house {
+        Side::Near => agreement.near_items,
+        Side::Far => agreement.far_items,
+    };
+    let Some(numbers) = items_in_view(rt.alloc(), near, far, agreement, side, label, house)? else {
+        return Ok(());
+    };
+    for number in numbers.iter() {
         let Some(item) = items.get(*number as usize) else {
             continue;
         };
@@ -63,10 +70,10 @@ fn item_lines<O: Order>(
             Some(role) => role.word(),
             None => "unknown",
         };
-        let label = item.label;
+        let at = item.label;
         println!(
             rt,
-            "{reader} may come to depend on {house} item {number}, {role}, label {label}"
+            "somebody cleared for {reader} label {label} may come to depend on {word} item {number}, {role}, label {at}"
         )?;
     }
     Ok(())
@@ -81,28 +88,9 @@ fn view_lines<N: Order, F: Order>(
     side: Side,
     labels: u64,
 ) -> Result<(), AnyError> {
-    let house = side.word();
     for label in 0..labels {
-        let Some(view) = view_of(near, far, agreement, side, label) else {
-            continue;
-        };
-        let reader = format!(rt.alloc(), "somebody cleared for {house} label {label}")?;
-        item_lines(
-            rt,
-            reader.as_str(),
-            Side::Near,
-            near,
-            view.near,
-            agreement.near_items,
-        )?;
-        item_lines(
-            rt,
-            reader.as_str(),
-            Side::Far,
-            far,
-            view.far,
-            agreement.far_items,
-        )?;
+        item_lines(rt, near, far, agreement, side, label, Side::Near)?;
+        item_lines(rt, near, far, agreement, side, label, Side::Far)?;
     }
     Ok(())
 }

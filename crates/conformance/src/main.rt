@@ -1,4 +1,5 @@
 // Sheets in hexadecimal, one to a line of standard input, with the verdict of each: OPEN, or how it is refused.
+use sheet::VerdictDisplay;
 use sheet::open_sheet;
 use std::alloc::AllocError;
 use std::alloc::Global;
@@ -33,15 +34,7 @@ fn spelled(heap: Global, line: &[u8]) -> Result<Vec<u8>, AllocError> {
 fn verdict(rt: &LibcRuntime, bytes: &[u8]) -> Result<(), AnyError> {
     match open_sheet(bytes) {
         Ok(_) => println!(rt, "OPEN")?,
-        Err(fault) => {
-            let refusal = fault.refusal();
-            let number = refusal.number;
-            let line = fault.line();
-            let side = refusal.side_number();
-            let p = refusal.p;
-            let q = refusal.q;
-            println!(rt, "REFUSE {number} {line} {side} {p} {q}")?;
-        }
+        Err(fault) => rt.println(fault.verdict())?,
     }
     Ok(())
 }

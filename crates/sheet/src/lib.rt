@@ -3,6 +3,7 @@ mod fault;
 mod opening;
 mod parts;
 mod reading;
+mod refusing;
 mod verdict;
 mod whole_sheet;
 
@@ -17,5 +18,7 @@ pub use parts::Items;
 pub use parts::Opened;
 pub use parts::Parts;
 pub use parts::Sheet;
+pub use refusing::VerdictDisplay;
+pub use verdict::Verdict;
 pub use whole_sheet::MOST_BYTES;
 pub use whole_sheet::read_sheet;

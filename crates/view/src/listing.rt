@@ -2,67 +2,76 @@
 use crate::words::usage;
 use agreement::Item;
 use agreement::Role;
-use agreement::items_up_to;
-use agreement::view_of;
+use agreement::items_in_view;
 use house::TableOrder;
 use order::Order;
 use refusal::Side;
 use sheet::Opened;
 use std::error::AnyError;
 
-// The items of one house up to the highest label of a view.
-fn house_items<O: Order>(
+fn item_line(
     rt: &LibcRuntime,
     before: &str,
     side: Side,
-    order: &O,
-    highest: u64,
-    items: &[Item],
+    number: u64,
+    item: Item,
 ) -> Result<(), AnyError> {
     let house = side.word();
-    for number in items_up_to(rt.alloc(), order, highest, items)?.iter() {
-        let Some(item) = items.get(*number as usize) else {
-            continue;
-        };
-        let role = match Role::of(item.role) {
-            Some(role) => role.word(),
-            None => "unknown",
-        };
-        let label = item.label;
-        println!(rt, "{before}{house} item {number} {role} label {label}")?;
-    }
+    let role = match Role::of(item.role) {
+        Some(role) => role.word(),
+        None => "unknown",
+    };
+    let label = item.label;
+    println!(rt, "{before}{house} item {number} {role} label {label}")?;
     Ok(())
 }
 
-// The items in the view of a label, each line begun by a text; whether the house has the label.
-fn view_items(
+// The items of one house in the view of a label, each line begun by a text; whether there is a view.
+fn house_lines(
+    rt: &LibcRuntime,
+    before: &str,
+    opened: &Opened,
+    side: Side,
+    label: u64,
+    house: Side,
+) -> Result<bool, AnyError> {
+    let agreement = opened.sheet.parts.agreement();
+    let Some(numbers) = items_in_view(
+        rt.alloc(),
+        &opened.near,
+        &opened.far,
+        &agreement,
+        side,
+        label,
+        house,
+    )?
+    else {
+        return Ok(false);
+    };
+    let items = match house {
+        Side::Near => agreement.near_items,
+        Side::Far => agreement.far_items,
+    };
+    for number in numbers.iter() {
+        if let Some(item) = items.get(*number as usize) {
+            item_line(rt, before, house, *number, *item)?;
+        }
+    }
+    Ok(true)
+}
+
+// The same of both houses.
+fn view_lines(
     rt: &LibcRuntime,
     before: &str,
     opened: &Opened,
     side: Side,
     label: u64,
 ) -> Result<bool, AnyError> {
-    let agreement = opened.sheet.parts.agreement();
-    let Some(view) = view_of(&opened.near, &opened.far, &agreement, side, label) else {
-        return Ok(false);
-    };
-    house_items(
-        rt,
-        before,
-        Side::Near,
-        &opened.near,
-        view.near,
-        agreement.near_items,
-    )?;
-    house_items(
-        rt,
-        before,
-        Side::Far,
-        &opened.far,
-        view.far,
-        agreement.far_items,
-    )?;
-    Ok(true)
+    Ok(
+        house_lines(rt, before, opened, side, label, Side::Near)?
+            && house_lines(rt, before, opened, side, label, Side::Far)?,
+    )
 }
 
 pub(crate) fn one_view(
@@ -71,7 +80,7 @@ pub(crate) fn one_view(
     side: Side,
     label: u64,
 ) -> Result<(), AnyError> {
-    if !view_items(rt, "", opened, side, label)? {
+    if !view_lines(rt, "", opened, side, label)? {
         return Err(usage(rt, "the house has no such LABEL"));
     }
     Ok(())
@@ -82,7 +91,7 @@ fn house_views(rt: &LibcRuntime, opened: &Opened, side: Side, labels: u64) -> Re
     let house = side.word();
     for label in 0..labels {
         let before = format!(rt.alloc(), "{house} label {label}: ")?;
-        let _known = view_items(rt, before.as_str(), opened, side, label)?;
+        let _known = view_lines(rt, before.as_str(), opened, side, label)?;
     }
     Ok(())
 }

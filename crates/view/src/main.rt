@@ -7,22 +7,11 @@ use input::read_bounded;
 use listing::every_view;
 use listing::one_view;
 use sheet::Opened;
-use sheet::SheetFault;
+use sheet::VerdictDisplay;
 use sheet::open_sheet;
 use std::error::AnyError;
 use words::Question;
 use words::asked_question;
-
-fn refuse(rt: &LibcRuntime, fault: SheetFault) -> Result<(), AnyError> {
-    let refusal = fault.refusal();
-    let number = refusal.number;
-    let line = fault.line();
-    let side = refusal.side_number();
-    let p = refusal.p;
-    let q = refusal.q;
-    println!(rt, "REFUSE {number} {line} {side} {p} {q}")?;
-    Ok(())
-}
 
 fn answer(rt: &LibcRuntime, asked: Question, opened: &Opened) -> Result<(), AnyError> {
     match asked {
@@ -36,7 +25,10 @@ fn run(rt: &LibcRuntime) -> Result<(), AnyError> {
     let bytes = read_bounded(rt)?;
     match open_sheet(bytes.as_slice()) {
         Ok(opened) => answer(rt, asked, &opened),
-        Err(fault) => refuse(rt, fault),
+        Err(fault) => {
+            rt.println(fault.verdict())?;
+            Ok(())
+        }
     }
 }
 
