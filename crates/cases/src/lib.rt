@@ -1,4 +1,4 @@
-// Tests: a case of each refusal, the worked examples, and layers piled on tables.
+// Tests: a case of each refusal of tables and agreements, the worked examples, and layers piled on tables.
 #[cfg(test)]
 mod agreements;
 #[cfg(test)]
