@@ -1,4 +1,6 @@
 // The rules that two maps and two item lists keep, settled labels, and views.
+#![tactic(auto)]
+
 mod certification;
 mod fault;
 mod item;

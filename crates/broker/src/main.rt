@@ -1,4 +1,6 @@
 // Two worked agreements: one that is certified, and one whose labels climb when they go round.
+#![tactic(auto)]
+
 mod reporting;
 
 use agreement::{Agreement, Item};

@@ -1,4 +1,6 @@
 // The worked examples as one theorem, and tests: a case of each refusal of tables and agreements, and layers piled on tables.
+#![tactic(auto)]
+
 #[cfg(test)]
 mod agreements;
 mod examples;

@@ -1,4 +1,6 @@
 // Sheets in hexadecimal, one to a line of standard input, with the verdict of each: OPEN, or how it is refused.
+#![tactic(auto)]
+
 use sheet::open_sheet;
 use std::alloc::{AllocError, Global};
 

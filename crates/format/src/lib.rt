@@ -1,4 +1,6 @@
 // Formats of bits: the fields that readers are made of.
+#![tactic(auto)]
+
 mod fault;
 mod fields;
 mod refusing;

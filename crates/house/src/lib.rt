@@ -1,4 +1,6 @@
 // Houses of any kind: how one is described by plain numbers, and the lattice that is made of it.
+#![tactic(auto)]
+
 mod description;
 mod making;
 mod table;

@@ -1,4 +1,6 @@
 // Prints the verdict on the sheet that standard input holds.
+#![tactic(auto)]
+
 use sheet::MOST_BYTES;
 use std::io::Read;
 use verdict::judge_sheet;

@@ -1,4 +1,6 @@
 // Sheets in hexadecimal, one to a line of standard input, with the verdict of each.
+#![tactic(auto)]
+
 use std::alloc::{AllocError, Global};
 use verdict::judge_sheet;
 

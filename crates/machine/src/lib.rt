@@ -1,5 +1,7 @@
 // The machine of two memories: values, operations, faults and what is refused with them. Its specs/ say what every call
 // does, and what certified agreements promise of any list of calls.
+#![tactic(auto)]
+
 mod fault;
 mod operation;
 mod refusing;

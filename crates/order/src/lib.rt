@@ -1,4 +1,6 @@
 // Orders and lattices of labels, the layer that turns one round, and folds over lists of labels.
+#![tactic(auto)]
+
 mod bound;
 mod fold;
 mod order;

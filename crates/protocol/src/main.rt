@@ -1,5 +1,7 @@
 // A session from its draft to its second opening, with the pass that each call takes. The folder misuse/ has texts that
 // differ from this one by a word or two, and do not compile.
+#![tactic(auto)]
+
 use agreement::{Agreement, Item};
 use anyhow::anyhow;
 use machine::CallFault;

@@ -1,4 +1,6 @@
 // What a refusal says: its number, the side that it is about, and two numbers, p and q, that name the place.
+#![tactic(auto)]
+
 ghost use Rattle.std.specs.Prelude.{◌≡◌};
 ghost use Rattle.refusal.specs.Sides.{other, side_number, side_word};
 

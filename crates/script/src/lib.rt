@@ -1,4 +1,6 @@
 // Scripts: lines and assignments, and reading them from bits.
+#![tactic(auto)]
+
 mod fault;
 mod line;
 mod reading;

@@ -1,4 +1,6 @@
 // Sessions: a record of two lattices, an agreement and values, and the passes that its calls take.
+#![tactic(auto)]
+
 mod calls;
 mod filling;
 mod keeping;

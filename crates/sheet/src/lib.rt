@@ -1,4 +1,6 @@
 // Sheets: an agreement with its script as a bit-packed file, read whole and then judged.
+#![tactic(auto)]
+
 mod fault;
 mod opening;
 mod parts;

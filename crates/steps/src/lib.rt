@@ -1,5 +1,7 @@
 // The steps of the machine as code: judged by orders, maps and items, and then done on the values. A refusal has nothing
 // to undo.
+#![tactic(auto)]
+
 mod computing;
 mod copying;
 mod items;

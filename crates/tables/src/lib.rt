@@ -1,4 +1,6 @@
 // Tables of labels that are lattices: listed rows, and levels with compartments.
+#![tactic(auto)]
+
 mod bounds;
 mod fault;
 mod graded;

@@ -1,4 +1,6 @@
 // The verdict on a sheet: read whole, its houses made, its agreement certified and its script judged by a session's calls.
+#![tactic(auto)]
+
 mod fault;
 mod judging;
 mod opened;

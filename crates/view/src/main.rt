@@ -1,4 +1,6 @@
 // Lists the items that somebody cleared for a label may come to depend on, of the agreement in a sheet.
+#![tactic(auto)]
+
 mod input;
 mod listing;
 mod words;

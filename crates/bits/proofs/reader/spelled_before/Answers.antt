@@ -10,7 +10,7 @@ returns c =
     let e = c.args.end in
     let w = c.args.width in
     let f = (e - c.from.result) / 8 in
-    let l = c.div-ceil-last.result in
+    let l = c.div_ceil-last.result in
     let spare : l * 8 - e ≡ 8 * l - e = omega arith in
     ap (λ (n : ℕ). n / 2 ^ (l * 8 - e) % (1 * 2 ^ w % 2 ^ 128)) c.spelled-whole.ensures
     ∙ ap₂ (λ (s m : ℕ). number (all_bits (take (l - f) (drop f bs))) / 2 ^ s % m) spare (one_shl w 128 (omega arith))

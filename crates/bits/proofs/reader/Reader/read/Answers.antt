@@ -25,7 +25,7 @@ returns c =
     let value : v ≡ number (piece (all_bits bs) p w) % 2 ^ 64 = elim c.if-width-eq0.branch [
       | then-width-eq0 none ↦ none.value-is ∙ number_none (all_bits bs) p w none.if-width-eq0.true
       | else-width-eq0 some ↦
-          some.value-is ∙ some.spelled-before-value.ensures
+          some.value-is ∙ some.spelled_before-value.ensures
           ∙ ap₂ (λ (n m : ℕ). number (piece (all_bits bs) (p + n - m) m)) c.from-bits.ensures some.min.ensures
           ∙ sym (number_wide (all_bits bs) p w fits)
     ] in
