@@ -16,7 +16,7 @@ loop-byte-preserved c =
     let i = c.loop-byte.byte-index in
     let v = c.loop-byte.value in
     let b = get_or bs i 0 in
-    let small : b < 2 ^ 8 = omega (arith, c.ok.bytes i) in
+    let small : b < 2 ^ 8 = omega (arith, c.type_inv.bytes i) in
     let long : length (all_bits (take i bs)) ≡ 8 * i = length_all_bits (take i bs) ∙ ap (λ (n : ℕ). 8 * n) (length-take-le i bs (omega arith)) in
     let fits : v < 2 ^ (8 * i) = subst (λ (n : ℕ). v < 2 ^ n) long (subst (λ (n : ℕ). n < 2 ^ length (all_bits (take i bs))) (sym c.loop-byte.invariant) (number_below (all_bits (take i bs)))) in
     ap₂ bit_or (shl_whole v (8 * i) 8 128 fits (omega (arith, c.requires))) c.from.ensures

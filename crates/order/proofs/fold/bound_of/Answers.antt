@@ -5,4 +5,4 @@ use Rattle.order.proofs.fold.bound_of.Goals as goal
 pub returns : goal.returns
 returns g c =
     let P = toward c.args.which (g.L.Order.meaning c.args.lattice.now) in
-    record { bound = c.folded-bound.ensures; value = supremum_is P c.args.labels.now c.folded-bound.result c.folded-bound.ensures }
+    record { bound = c.folded_bound.ensures; value = supremum_is P c.args.labels.now c.folded_bound.result c.folded_bound.ensures }

@@ -5,8 +5,8 @@ use Rattle.bits.proofs.Fields.{field_answers, field_below, field_lacks, number_n
 use Rattle.bits.proofs.reader.Reader.read.Goals.{then-width-eq0, else-width-eq0}
 use Rattle.bits.proofs.reader.Reader.read.Goals as goal
 
-pub returns-then-bits-saturating-sub : goal.returns-then-bits-saturating-sub
-returns-then-bits-saturating-sub c =
+pub returns-then-bits-saturating_sub : goal.returns-then-bits-saturating_sub
+returns-then-bits-saturating_sub c =
     let bs = c.args.self.now.bytes.now in
     record {
       field = field_lacks bs c.args.self.now.at c.args.width (omega (arith, length_all_bits bs));
