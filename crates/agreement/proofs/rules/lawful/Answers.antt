@@ -14,12 +14,12 @@ loop-place-init g c =
 pub loop-place-preserved : goal.loop-place-preserved
 loop-place-preserved g c =
     let i = c.loop-place.place in
-    left_more c.loop-place.invariant c.loop-place-test.true (check_at (Unlawful i (get_or c.args.items.now i no_item).label) c.if-not-lawful-item.ensures)
+    left_more c.loop-place.invariant c.loop-place-test.true (check_at (Unlawful i (get_or c.args.items.now i no_item).label) c.if-not-lawful_item.ensures)
 
-pub returns-then-not-lawful-item : goal.returns-then-not-lawful-item
-returns-then-not-lawful-item g c =
+pub returns-then-not-lawful_item : goal.returns-then-not-lawful_item
+returns-then-not-lawful_item g c =
     let i = c.loop-place.place in
-    left_err c.loop-place.invariant c.loop-place-test.true (check_at (Unlawful i (get_or c.args.items.now i no_item).label) c.if-not-lawful-item.ensures)
+    left_err c.loop-place.invariant c.loop-place-test.true (check_at (Unlawful i (get_or c.args.items.now i no_item).label) c.if-not-lawful_item.ensures)
 
 pub returns : goal.returns
 returns g c = left_all c.loop-place.invariant c.loop-place-test.false

@@ -11,11 +11,11 @@ loop-label-init g c =
 
 pub loop-label-preserved : goal.loop-label-preserved
 loop-label-preserved g c =
-    left_more c.loop-label.invariant (omega (arith, c.count-label-end.ensures)) (check_at (Falls c.loop-label.label) c.if-not-rises-at.ensures)
+    left_more c.loop-label.invariant (omega (arith, c.count-label-end.ensures)) (check_at (Falls c.loop-label.label) c.if-not-rises_at.ensures)
 
-pub returns-then-not-rises-at : goal.returns-then-not-rises-at
-returns-then-not-rises-at g c =
-    left_err c.loop-label.invariant (omega (arith, c.count-label-end.ensures)) (check_at (Falls c.loop-label.label) c.if-not-rises-at.ensures)
+pub returns-then-not-rises_at : goal.returns-then-not-rises_at
+returns-then-not-rises_at g c =
+    left_err c.loop-label.invariant (omega (arith, c.count-label-end.ensures)) (check_at (Falls c.loop-label.label) c.if-not-rises_at.ensures)
 
 pub returns : goal.returns
 returns g c = left_all c.loop-label.invariant (omega (arith, c.count-label-end.ensures))

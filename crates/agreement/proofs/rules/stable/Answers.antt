@@ -11,11 +11,11 @@ loop-label-init g c =
 
 pub loop-label-preserved : goal.loop-label-preserved
 loop-label-preserved g c =
-    left_more c.loop-label.invariant (omega (arith, c.count-label-end.ensures)) (check_at (Drifts c.loop-label.label) c.if-not-stays-at.ensures)
+    left_more c.loop-label.invariant (omega (arith, c.count-label-end.ensures)) (check_at (Drifts c.loop-label.label) c.if-not-stays_at.ensures)
 
-pub returns-then-not-stays-at : goal.returns-then-not-stays-at
-returns-then-not-stays-at g c =
-    left_err c.loop-label.invariant (omega (arith, c.count-label-end.ensures)) (check_at (Drifts c.loop-label.label) c.if-not-stays-at.ensures)
+pub returns-then-not-stays_at : goal.returns-then-not-stays_at
+returns-then-not-stays_at g c =
+    left_err c.loop-label.invariant (omega (arith, c.count-label-end.ensures)) (check_at (Drifts c.loop-label.label) c.if-not-stays_at.ensures)
 
 pub returns : goal.returns
 returns g c = left_all c.loop-label.invariant (omega (arith, c.count-label-end.ensures))

@@ -2,7 +2,7 @@ use Rattle.std.proofs.Common.{ℕ, ◌+◌, List, ◌++◌, vec_items, sym, ap, 
 use Rattle.agreement.specs.Views.{listed, Lists}
 use Rattle.agreement.proofs.Listings.{left_take, left_skip, left_all, lists}
 use Rattle.agreement.proofs.views.items_up_to.Goals as goal
-use Rattle.agreement.proofs.views.items_up_to.Goals.{then-flows+in-ok-push, else-flows}
+use Rattle.agreement.proofs.views.items_up_to.Goals.{then-flows+in_ok-push, else-flows}
 
 pub loop-number-init : goal.loop-number-init
 loop-number-init g c =
@@ -15,8 +15,8 @@ loop-number-preserved g c =
     let k = c.loop-number.number in
     let is = vec_items c.loop-number.numbers in
     elim c.if-flows.branch [
-      | then-flows+in-ok-push w ↦
-          simp (w.numbers-is, w.in-ok-push.ensures.items)
+      | then-flows+in_ok-push w ↦
+          simp (w.numbers-is, w.in_ok-push.ensures.items)
           (left_take P c.args.highest xs k is c.loop-number-test.true (sym c.flows.ensures ∙ w.if-flows.true) c.loop-number.invariant)
       | else-flows w ↦ simp w.numbers-is (left_skip P c.args.highest xs k is c.loop-number-test.true (sym c.flows.ensures ∙ w.if-flows.false) c.loop-number.invariant)
     ]

@@ -5,13 +5,13 @@ use Rattle.format.proofs.Readings.{limited_within, limited_outside}
 use Rattle.format.proofs.Bytes.{field_value, field_lacking}
 use Rattle.format.proofs.fields.field.Goals as goal
 
-pub returns-in-err-value : goal.returns-in-err-value
-returns-in-err-value c =
-    let p = err_from_is_err_and c.from-residual.result c.from-residual.ensures.1 in
+pub returns-in_err-value : goal.returns-in_err-value
+returns-in_err-value c =
+    let p = err_from_is_err_and c.from_residual.result c.from_residual.ensures.1 in
     let bs = c.args.reader.now.bytes.now in
     rw (p.1, p.2)
     (record {
-      value = field_lacking bs c.args.width c.args.reader.now.at c.args.least c.args.most c.in-err-value.field-0.0 c.in-err-value.ensures.field;
+      value = field_lacking bs c.args.width c.args.reader.now.at c.args.least c.args.most c.in_err-value.field-0.0 c.in_err-value.ensures.field;
       limits = tt;
       bytes = refl;
       stays = refl;
@@ -21,11 +21,11 @@ pub returns-then-value-least : goal.returns-then-value-least
 returns-then-value-least c =
     let bs = c.args.reader.now.bytes.now in
     let at = c.args.reader.now.at in
-    let v = c.in-ok-value.value in
+    let v = c.in_ok-value.value in
     let end = c.read.new.self.at in
     record {
       value =
-          field_value bs c.args.width at c.args.least c.args.most v end c.in-ok-value.ensures.field
+          field_value bs c.args.width at c.args.least c.args.most v end c.in_ok-value.ensures.field
           ∙ limited_outside c.args.least c.args.most at v end c.then-value-least.either
           ∙ ap (λ (n : ℕ). Err (NotAllowed n v)) (sym c.at.ensures);
       limits = tt;
@@ -37,9 +37,9 @@ pub returns : goal.returns
 returns c =
     let bs = c.args.reader.now.bytes.now in
     let at = c.args.reader.now.at in
-    let v = c.in-ok-value.value in
+    let v = c.in_ok-value.value in
     let end = c.read.new.self.at in
-    let was = c.in-ok-value.ensures in
+    let was = c.in_ok-value.ensures in
     record {
       value =
           field_value bs c.args.width at c.args.least c.args.most v end was.field

@@ -5,7 +5,7 @@ use Rattle.order.proofs.Suprema.{passed_taken, passed_left, toward_count}
 use Rattle.tables.specs.Bounded.{better}
 use Rattle.tables.specs.Suprema.{decides_better}
 use Rattle.tables.proofs.bounds.candidate.Goals as goal
-use Rattle.tables.proofs.bounds.candidate.Goals.{then-is-better, else-is-better}
+use Rattle.tables.proofs.bounds.candidate.Goals.{then-is_better, else-is_better}
 
 pub loop-label-init : goal.loop-label-init
 loop-label-init g c = record { above = tt; first = λ d l s. absurd (omega arith) }
@@ -16,11 +16,11 @@ loop-label-preserved g c =
     let P = toward c.args.which Q in
     let k = c.loop-label.label in
     let decided = decides_better P c.args.a c.args.b k c.loop-label.best in
-    elim c.if-is-better.branch [
-      | then-is-better w ↦ simp w.best-is
-          (passed_taken c.loop-label.invariant (omega (arith, toward_count c.args.which Q, c.count-label-end.ensures)) (decided.0 (sym w.if-is-better.ensures)))
-      | else-is-better w ↦ simp w.best-is
-          (passed_left c.loop-label.invariant (not_from_Decides (better P.flow c.args.a c.args.b k c.loop-label.best) decided (sym w.if-is-better.ensures)))
+    elim c.if-is_better.branch [
+      | then-is_better w ↦ simp w.best-is
+          (passed_taken c.loop-label.invariant (omega (arith, toward_count c.args.which Q, c.count-label-end.ensures)) (decided.0 (sym w.if-is_better.ensures)))
+      | else-is_better w ↦ simp w.best-is
+          (passed_left c.loop-label.invariant (not_from_Decides (better P.flow c.args.a c.args.b k c.loop-label.best) decided (sym w.if-is_better.ensures)))
     ]
 
 pub returns : goal.returns

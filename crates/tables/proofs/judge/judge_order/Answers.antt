@@ -8,6 +8,6 @@ use Rattle.tables.proofs.judge.judge_order.Goals as goal
 pub returns : goal.returns
 returns c =
     let rows = c.args.rows.now in
-    let some : 1 ≤ length rows = omega (arith, eqb-false (length rows) 0 (sym c.if-is-empty.ensures)) in
-    let judged : c.judge-laws.result ≡ order_judged rows = c.judge-laws.ensures ∙ order_in_range rows some c.if-rows-gt-MAX-ROWS.false in
-    record { answer = judged; law = decides_fits c.judge-laws.result judged (order_fits rows) }
+    let some : 1 ≤ length rows = omega (arith, eqb-false (length rows) 0 (sym c.if-is_empty.ensures)) in
+    let judged : c.judge_laws.result ≡ order_judged rows = c.judge_laws.ensures ∙ order_in_range rows some c.if-rows-gt-MAX_ROWS.false in
+    record { answer = judged; law = decides_fits c.judge_laws.result judged (order_fits rows) }

@@ -7,8 +7,8 @@ use Rattle.tables.proofs.graded.Graded.bound.Goals as goal
 pub label-requires : goal.label-requires
 label-requires c =
     let s = c.args.self.now in
-    let level : c.bound-of-levels-level.result ≡ level_at c.args.which s.compartments c.args.a c.args.b = cc in
-    let both : c.bound-of-sets-set.result ≡ set_at c.args.which s.compartments c.args.a c.args.b = cc in (
+    let level : c.bound_of_levels-level.result ≡ level_at c.args.which s.compartments c.args.a c.args.b = cc in
+    let both : c.bound_of_sets-set.result ≡ set_at c.args.which s.compartments c.args.a c.args.b = cc in (
       omega (arith, level_at_below c.args.which s.levels s.compartments c.args.a c.args.b (omega arith) (omega arith)),
       omega (arith, set_at_below c.args.which s.compartments c.args.a c.args.b),
     )

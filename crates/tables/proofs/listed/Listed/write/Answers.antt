@@ -6,15 +6,15 @@ use Rattle.tables.specs.Listed.{rows_judged}
 use Rattle.tables.specs.Lattices.{lattice_fits}
 use Rattle.tables.proofs.listed.Listed.write.Goals as goal
 
-pub returns-in-err-self : goal.returns-in-err-self
-returns-in-err-self c =
+pub returns-in_err-self : goal.returns-in_err-self
+returns-in_err-self c =
     let rows = c.args.rows.now in
-    let x = c.in-err-self.field-0.0 in
-    rw (break_is c.from-residual.result x c.from-residual.ensures.1) (
-    let judged : ◌≡◌ {A = Judgement _} (Err x) (rows_judged rows) = sym c.in-err-self.ensures in
+    let x = c.in_err-self.field-0.0 in
+    rw (break_is c.from_residual.result x c.from_residual.ensures.1) (
+    let judged : ◌≡◌ {A = Judgement _} (Err x) (rows_judged rows) = sym c.in_err-self.ensures in
     record { answer = judged; place = refl; law = decides_fits (Err x) judged (lattice_fits rows) })
 
 pub returns : goal.returns
 returns c =
-    let held = c.in-ok-self.ensures in
+    let held = c.in_ok-self.ensures in
     record { answer = sym held.0; place = held.1; law = decides_fits accepted (sym held.0) (lattice_fits c.args.rows.now) }
