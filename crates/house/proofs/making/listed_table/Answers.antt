@@ -10,14 +10,14 @@ use Rattle.house.proofs.making.listed_table.Goals as goal
 from_start : (count : ℕ) (rows : List ℕ) → take (count - 0) rows ≡ take count rows
 from_start count rows = ap (λ (n : ℕ). take n rows) (sub-zero count)
 
-pub returns-in-err-write : goal.returns-in-err-write
-returns-in-err-write c =
+pub returns-in_err-write : goal.returns-in_err-write
+returns-in_err-write c =
     let n = c.args.count in
     let rows = c.args.rows.now in
     let few : n ≤ 32 = omega arith in
-    let told = c.in-err-write.ensures in
+    let told = c.in_err-write.ensures in
     let same = from_start n rows in
-    let both = passed_on c.in-err-write.field-0.0 c.from-residual.result _ (house_judged (Listed n rows)) c.from-residual.ensures.1
+    let both = passed_on c.in_err-write.field-0.0 c.from_residual.result _ (house_judged (Listed n rows)) c.from_residual.ensures.1
     (judged_rows n rows few ∙ sym (told.answer ∙ ap rows_judged same))
     (decides_rows n rows few false (subst (λ (part : List ℕ). Decides false (LatticeRows part)) same told.law)) in
     record { answer = both.0; law = both.1 }
@@ -27,7 +27,7 @@ returns c =
     let n = c.args.count in
     let rows = c.args.rows.now in
     let few : n ≤ 32 = omega arith in
-    let told = c.in-ok-write.ensures in
+    let told = c.in_ok-write.ensures in
     let t = c.write.new.self in
     let same = from_start n rows in
     record {

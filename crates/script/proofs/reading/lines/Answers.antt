@@ -11,26 +11,26 @@ pub loop-place-preserved : goal.loop-place-preserved
 loop-place-preserved c =
     let p = c.loop-place.reader.at in
     let same = c.loop-place.invariant.0 in
-    let got = c.in-ok-numbered-line.ensures in (
+    let got = c.in_ok-numbered_line.ensures in (
       got.bytes ∙ same,
       passing_more (λ i e. on_line (suc i) e) (read line (all_bits c.args.reader.now.bytes.now)) c.args.count c.args.reader.now.at c.loop-place.place p
-          c.in-ok-numbered-line.field-0 c.numbered-line.new.reader.at c.loop-place-test.true
+          c.in_ok-numbered_line.field-0 c.numbered_line.new.reader.at c.loop-place-test.true
           (ap (λ (k : ℕ). under (on_line k) (read line (all_bits c.args.reader.now.bytes.now) p)) (sym (add-one c.loop-place.place))
           ∙ ap (λ b. under (on_line (c.loop-place.place + 1)) (read line (all_bits b.now) p)) (sym same) ∙ got.value) c.loop-place.invariant.1,
     )
 
-pub returns-in-err-numbered-line : goal.returns-in-err-numbered-line
-returns-in-err-numbered-line c =
+pub returns-in_err-numbered_line : goal.returns-in_err-numbered_line
+returns-in_err-numbered_line c =
     let p = c.loop-place.reader.at in
     let same = c.loop-place.invariant.0 in
-    let got = c.in-err-numbered-line.ensures in
+    let got = c.in_err-numbered_line.ensures in
     let stop =
     passing_stop (λ i e. on_line (suc i) e) (read line (all_bits c.args.reader.now.bytes.now)) c.args.count c.args.reader.now.at c.loop-place.place p
-    c.in-err-numbered-line.field-0.0 c.loop-place-test.true
+    c.in_err-numbered_line.field-0.0 c.loop-place-test.true
     (ap (λ (k : ℕ). under (on_line k) (read line (all_bits c.args.reader.now.bytes.now) p)) (sym (add-one c.loop-place.place))
     ∙ ap (λ b. under (on_line (c.loop-place.place + 1)) (read line (all_bits b.now) p)) (sym same) ∙ got.value) c.loop-place.invariant.1
     in
-    let out = err_from_is_err_and c.from-residual.result c.from-residual.ensures.1 in
+    let out = err_from_is_err_and c.from_residual.result c.from_residual.ensures.1 in
     record { value = rw (out.1, out.2) stop; bytes = got.bytes ∙ same }
 
 pub returns : goal.returns

@@ -8,8 +8,8 @@ use Rattle.session.proofs.opening.of_length.Goals as goal
 pub returns-then-values-needed : goal.returns-then-values-needed
 returns-then-values-needed c =
     let m = c.args.items.now in
-    let same : length c.args.values.now ≡ length (meant_items m) = c.if-values-needed.true ∙ ap length c.as-slice-needed.ensures.value in
+    let same : length c.args.values.now ≡ length (meant_items m) = c.if-values-needed.true ∙ ap length c.as_slice-needed.ensures.value in
     record {
       answer = sym (check_at (wrong_length c.args.side (length (meant_items m))) (eq-eqb (length c.args.values.now) (length (meant_items m)) same));
-      few = omega (arith, same, c.as-slice-needed.ensures.few);
+      few = omega (arith, same, c.as_slice-needed.ensures.few);
     }

@@ -8,16 +8,16 @@ loop-place-init c = storing_start (field 6 0 63) 64 0 c.args.count c.args.reader
 
 pub loop-place-preserved : goal.loop-place-preserved
 loop-place-preserved c =
-    let got = c.in-ok-table.ensures in
+    let got = c.in_ok-table.ensures in
     storing_more (field 6 0 63) 64 0 c.args.count c.args.reader.now c.loop-place.place c.loop-place.reader c.field.new.reader c.loop-place.table
-    c.in-ok-table.field-0 c.requires c.loop-place-test.true got.value got.bytes c.loop-place.invariant
+    c.in_ok-table.field-0 c.requires c.loop-place-test.true got.value got.bytes c.loop-place.invariant
 
-pub returns-in-err-table : goal.returns-in-err-table
-returns-in-err-table c =
-    let got = c.in-err-table.ensures in
+pub returns-in_err-table : goal.returns-in_err-table
+returns-in_err-table c =
+    let got = c.in_err-table.ensures in
     record {
       value = storing_stop (field 6 0 63) 64 0 c.args.count c.args.reader.now c.loop-place.place c.loop-place.reader c.field.new.reader c.loop-place.table
-          c.in-err-table.field-0.0 c.from-residual.result c.loop-place-test.true got.value c.from-residual.ensures.1 c.loop-place.invariant;
+          c.in_err-table.field-0.0 c.from_residual.result c.loop-place-test.true got.value c.from_residual.ensures.1 c.loop-place.invariant;
       bytes = got.bytes ∙ c.loop-place.invariant.0;
     }
 

@@ -2,9 +2,9 @@ use Rattle.std.proofs.Common.{rules}
 use Rattle.sheet.specs.Sheets.{house}
 use Rattle.sheet.proofs.reading.house.Goals as goal
 
-pub returns-in-err-kind : goal.returns-in-err-kind
+pub returns-in_err-kind : goal.returns-in_err-kind
 unfolding house
-returns-in-err-kind c = search rules
+returns-in_err-kind c = search rules
 
 pub returns-then-kind-eq0 : goal.returns-then-kind-eq0
 unfolding house

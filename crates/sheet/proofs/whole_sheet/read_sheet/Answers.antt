@@ -8,5 +8,5 @@ returns c =
       value = c.whole.ensures;
       written = sheet_written c.args.bytes.now c.whole.result c.whole.ensures;
       back = sheet_back c.args.bytes.now c.whole.result c.whole.ensures;
-      alone = alone c.args.bytes.now (λ i. (c.type-inv.bytes i).fits);
+      alone = alone c.args.bytes.now (λ i. (c.type_inv.bytes i).fits);
     }

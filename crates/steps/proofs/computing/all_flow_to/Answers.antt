@@ -22,13 +22,13 @@ pub loop-place-preserved : goal.loop-place-preserved
 loop-place-preserved g c =
     let k = c.loop-place.place in
     left_more c.loop-place.invariant c.loop-place-test.true
-    (check_at (NotAllowed (Some c.args.side) c.args.target k) (at_label (g.O.Order.meaning c.args.order.now) c.args.items.now (get_or c.args.assignments.now k blank) c.label-of-label.ensures c.if-not-operands-flow.ensures))
+    (check_at (NotAllowed (Some c.args.side) c.args.target k) (at_label (g.O.Order.meaning c.args.order.now) c.args.items.now (get_or c.args.assignments.now k blank) c.label_of-label.ensures c.if-not-operands_flow.ensures))
 
-pub returns-then-not-operands-flow : goal.returns-then-not-operands-flow
-returns-then-not-operands-flow g c =
+pub returns-then-not-operands_flow : goal.returns-then-not-operands_flow
+returns-then-not-operands_flow g c =
     let k = c.loop-place.place in
     left_err c.loop-place.invariant c.loop-place-test.true
-    (check_at (NotAllowed (Some c.args.side) c.args.target k) (at_label (g.O.Order.meaning c.args.order.now) c.args.items.now (get_or c.args.assignments.now k blank) c.label-of-label.ensures c.if-not-operands-flow.ensures))
+    (check_at (NotAllowed (Some c.args.side) c.args.target k) (at_label (g.O.Order.meaning c.args.order.now) c.args.items.now (get_or c.args.assignments.now k blank) c.label_of-label.ensures c.if-not-operands_flow.ensures))
 
 pub returns : goal.returns
 returns g c = left_all c.loop-place.invariant c.loop-place-test.false

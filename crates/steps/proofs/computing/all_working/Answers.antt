@@ -8,11 +8,11 @@ loop-place-init c =
     left_none (assignment_roles c.args.side c.args.items.now c.args.assignments.now) (length c.args.assignments.now)
 
 pub loop-place-preserved : goal.loop-place-preserved
-loop-place-preserved c = left_more c.loop-place.invariant c.loop-place-test.true c.in-ok-working.ensures
+loop-place-preserved c = left_more c.loop-place.invariant c.loop-place-test.true c.in_ok-working.ensures
 
-pub returns-in-err-working : goal.returns-in-err-working
-returns-in-err-working c =
-    left_break c.loop-place.invariant c.from-residual.result c.loop-place-test.true c.in-err-working.ensures c.from-residual.ensures.1
+pub returns-in_err-working : goal.returns-in_err-working
+returns-in_err-working c =
+    left_break c.loop-place.invariant c.from_residual.result c.loop-place-test.true c.in_err-working.ensures c.from_residual.ensures.1
 
 pub returns : goal.returns
 returns c = left_all c.loop-place.invariant c.loop-place-test.false

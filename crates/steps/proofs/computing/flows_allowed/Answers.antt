@@ -8,11 +8,11 @@ loop-target-init g c =
     left_none (target_judged (g.O.Order.meaning c.args.order.now) c.args.side c.args.items.now c.args.assignments.now) (length c.args.assignments.now)
 
 pub loop-target-preserved : goal.loop-target-preserved
-loop-target-preserved g c = left_more c.loop-target.invariant c.loop-target-test.true c.in-ok-all-flow-to.ensures
+loop-target-preserved g c = left_more c.loop-target.invariant c.loop-target-test.true c.in_ok-all_flow_to.ensures
 
-pub returns-in-err-all-flow-to : goal.returns-in-err-all-flow-to
-returns-in-err-all-flow-to g c =
-    left_break c.loop-target.invariant c.from-residual.result c.loop-target-test.true c.in-err-all-flow-to.ensures c.from-residual.ensures.1
+pub returns-in_err-all_flow_to : goal.returns-in_err-all_flow_to
+returns-in_err-all_flow_to g c =
+    left_break c.loop-target.invariant c.from_residual.result c.loop-target-test.true c.in_err-all_flow_to.ensures c.from_residual.ensures.1
 
 pub returns : goal.returns
 returns g c = left_all c.loop-target.invariant c.loop-target-test.false

@@ -12,13 +12,13 @@ pub loop-place-preserved : goal.loop-place-preserved
 loop-place-preserved c =
     let k = c.loop-place.place in
     left_more c.loop-place.invariant c.loop-place-test.true
-    (check_at (UnknownOperation c.args.side k (get_or c.args.assignments.now k blank).operation) (sym c.if-is-none.ensures ∙ ap is_some c.of.ensures))
+    (check_at (UnknownOperation c.args.side k (get_or c.args.assignments.now k blank).operation) (sym c.if-is_none.ensures ∙ ap is_some c.of.ensures))
 
-pub returns-then-is-none : goal.returns-then-is-none
-returns-then-is-none c =
+pub returns-then-is_none : goal.returns-then-is_none
+returns-then-is_none c =
     let k = c.loop-place.place in
     left_err c.loop-place.invariant c.loop-place-test.true
-    (check_at (UnknownOperation c.args.side k (get_or c.args.assignments.now k blank).operation) (sym c.if-is-none.ensures ∙ ap is_some c.of.ensures))
+    (check_at (UnknownOperation c.args.side k (get_or c.args.assignments.now k blank).operation) (sym c.if-is_none.ensures ∙ ap is_some c.of.ensures))
 
 pub returns : goal.returns
 returns c = left_all c.loop-place.invariant c.loop-place-test.false

@@ -8,37 +8,37 @@ use Rattle.steps.proofs.Rereading.{counted, uncounted, lines_start, lines_more, 
 use Rattle.steps.proofs.Running.{writes_are, written_push}
 use Rattle.steps.proofs.scripts.do_script.Goals as goal
 
-pub returns-in-default : goal.returns-in-default
-returns-in-default c =
+pub returns-in_default : goal.returns-in_default
+returns-in_default c =
     absurd (both_ways (is_ok (read script (all_bits c.args.bytes.now) c.args.at))
-    (ap is_ok (uncounted c.new-reader.result c.new-reader.ensures.bytes c.new-reader.ensures.at c.in-default.field-0 c.in-default.ensures.value)) c.requires)
+    (ap is_ok (uncounted c.new-reader.result c.new-reader.ensures.bytes c.new-reader.ensures.at c.in_default.field-0 c.in_default.ensures.value)) c.requires)
 
 pub loop-passed-init : goal.loop-passed-init
-loop-passed-init c = ([], lines_start c.in-Ok.count c.line-count.new.reader, refl)
+loop-passed-init c = ([], lines_start c.in-Ok.count c.line_count.new.reader, refl)
 
-pub returns-in-default-numbered-line : goal.returns-in-default-numbered-line
-returns-in-default-numbered-line c =
+pub returns-in_default-numbered_line : goal.returns-in_default-numbered_line
+returns-in_default-numbered_line c =
     let first = c.in-Ok.ensures in
-    let whole = counted c.new-reader.result c.new-reader.ensures.bytes c.new-reader.ensures.at c.in-Ok.count c.line-count.new.reader first.bytes first.value in
+    let whole = counted c.new-reader.result c.new-reader.ensures.bytes c.new-reader.ensures.at c.in-Ok.count c.line_count.new.reader first.bytes first.value in
     absurd (both_ways (is_ok (read script (all_bits c.args.bytes.now) c.args.at))
-    (ap is_ok (script_stops whole c.loop-passed.passed c.loop-passed.reader c.loop-passed.invariant.0 c.in-default-numbered-line.field-0 (omega arith)
-    c.in-default-numbered-line.ensures.value c.loop-passed.invariant.1)) c.requires)
+    (ap is_ok (script_stops whole c.loop-passed.passed c.loop-passed.reader c.loop-passed.invariant.0 c.in_default-numbered_line.field-0 (omega arith)
+    c.in_default-numbered_line.ensures.value c.loop-passed.invariant.1)) c.requires)
 
 pub loop-passed-preserved : goal.loop-passed-preserved
 loop-passed-preserved c =
     let ls = c.loop-passed.invariant.0 in
-    let got = c.in-Ok-numbered-line.ensures in
-    let l = c.in-Ok-numbered-line.line in (
+    let got = c.in-Ok-numbered_line.ensures in
+    let l = c.in-Ok-numbered_line.line in (
       ls ++ l ∷ [],
-      lines_more c.in-Ok.count c.line-count.new.reader c.loop-passed.passed c.loop-passed.reader c.numbered-line.new.reader ls l
+      lines_more c.in-Ok.count c.line_count.new.reader c.loop-passed.passed c.loop-passed.reader c.numbered_line.new.reader ls l
           (omega arith) got.value got.bytes c.loop-passed.invariant.1,
-      written_push c.args.values.now c.loop-passed.values c.do-line.new.values ls l c.loop-passed.invariant.2 c.do-line.ensures,
+      written_push c.args.values.now c.loop-passed.values c.do_line.new.values ls l c.loop-passed.invariant.2 c.do_line.ensures,
     )
 
 pub returns : goal.returns
 returns c =
     let first = c.in-Ok.ensures in
-    let whole = counted c.new-reader.result c.new-reader.ensures.bytes c.new-reader.ensures.at c.in-Ok.count c.line-count.new.reader first.bytes first.value in
+    let whole = counted c.new-reader.result c.new-reader.ensures.bytes c.new-reader.ensures.at c.in-Ok.count c.line_count.new.reader first.bytes first.value in
     c.loop-passed.invariant.2
     ∙ ap (all_written c.args.values.now) (writes_are c.args.bytes.now c.args.at c.loop-passed.invariant.0 c.loop-passed.reader.at
     (script_ends whole c.loop-passed.passed c.loop-passed.reader c.loop-passed.invariant.0 (omega arith) c.loop-passed.invariant.1))

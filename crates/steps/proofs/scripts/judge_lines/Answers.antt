@@ -6,41 +6,41 @@ use Rattle.steps.proofs.Accepting.{judged_push}
 use Rattle.steps.proofs.Rereading.{counted, uncounted, lines_start, lines_more, script_stops, script_ends}
 use Rattle.steps.proofs.scripts.judge_lines.Goals as goal
 
-pub returns-in-err-count : goal.returns-in-err-count
-returns-in-err-count g c =
+pub returns-in_err-count : goal.returns-in_err-count
+returns-in_err-count g c =
     let J = agreed (g.N.Order.meaning c.args.near.now) (g.F.Order.meaning c.args.far.now) c.args.agreement.now in
-    let e = c.in-err-count.field-0.0 in
-    subst (JudgesLines J c.args.bytes.now c.args.at) (sym (break_is c.from-residual.result e c.from-residual.ensures.1))
-    (uncounted c.new-reader.result c.new-reader.ensures.bytes c.new-reader.ensures.at e c.in-err-count.ensures.value)
+    let e = c.in_err-count.field-0.0 in
+    subst (JudgesLines J c.args.bytes.now c.args.at) (sym (break_is c.from_residual.result e c.from_residual.ensures.1))
+    (uncounted c.new-reader.result c.new-reader.ensures.bytes c.new-reader.ensures.at e c.in_err-count.ensures.value)
 
 pub loop-place-init : goal.loop-place-init
-loop-place-init g c = ([], lines_start c.in-ok-count.count c.line-count.new.reader, (refl, c.none-judged.ensures))
+loop-place-init g c = ([], lines_start c.in_ok-count.count c.line_count.new.reader, (refl, c.none_judged.ensures))
 
-pub returns-in-err-line : goal.returns-in-err-line
-returns-in-err-line g c =
+pub returns-in_err-line : goal.returns-in_err-line
+returns-in_err-line g c =
     let J = agreed (g.N.Order.meaning c.args.near.now) (g.F.Order.meaning c.args.far.now) c.args.agreement.now in
-    let e = c.in-err-line.field-0.0 in
-    let first = c.in-ok-count.ensures in
-    let whole = counted c.new-reader.result c.new-reader.ensures.bytes c.new-reader.ensures.at c.in-ok-count.count c.line-count.new.reader first.bytes first.value in
-    subst (JudgesLines J c.args.bytes.now c.args.at) (sym (break_is c.from-residual-in-err-line.result e c.from-residual-in-err-line.ensures.1))
-    (script_stops whole c.loop-place.place c.loop-place.reader c.loop-place.invariant.0 e c.loop-place-test.true c.in-err-line.ensures.value c.loop-place.invariant.1)
+    let e = c.in_err-line.field-0.0 in
+    let first = c.in_ok-count.ensures in
+    let whole = counted c.new-reader.result c.new-reader.ensures.bytes c.new-reader.ensures.at c.in_ok-count.count c.line_count.new.reader first.bytes first.value in
+    subst (JudgesLines J c.args.bytes.now c.args.at) (sym (break_is c.from_residual-in_err-line.result e c.from_residual-in_err-line.ensures.1))
+    (script_stops whole c.loop-place.place c.loop-place.reader c.loop-place.invariant.0 e c.loop-place-test.true c.in_err-line.ensures.value c.loop-place.invariant.1)
 
 pub loop-place-preserved : goal.loop-place-preserved
 loop-place-preserved g c =
     let J = agreed (g.N.Order.meaning c.args.near.now) (g.F.Order.meaning c.args.far.now) c.args.agreement.now in
     let ls = c.loop-place.invariant.0 in
     let so_far = c.loop-place.invariant.1 in
-    let got = c.in-ok-line.ensures in
-    let l = c.in-ok-line.line in (
+    let got = c.in_ok-line.ensures in
+    let l = c.in_ok-line.line in (
       ls ++ l ∷ [],
-      lines_more c.in-ok-count.count c.line-count.new.reader c.loop-place.place c.loop-place.reader c.numbered-line.new.reader ls l
+      lines_more c.in_ok-count.count c.line_count.new.reader c.loop-place.place c.loop-place.reader c.numbered_line.new.reader ls l
           c.loop-place-test.true got.value got.bytes so_far,
-      judged_push J ls l (c.loop-place.place + 1) c.loop-place.judged c.judge-next-judged.result
-          (ap (λ (k : ℕ). k + 1) so_far.long) c.loop-place.invariant.2 c.judge-next-judged.ensures,
+      judged_push J ls l (c.loop-place.place + 1) c.loop-place.judged c.judge_next-judged.result
+          (ap (λ (k : ℕ). k + 1) so_far.long) c.loop-place.invariant.2 c.judge_next-judged.ensures,
     )
 
 pub returns : goal.returns
 returns g c =
-    let first = c.in-ok-count.ensures in
-    let whole = counted c.new-reader.result c.new-reader.ensures.bytes c.new-reader.ensures.at c.in-ok-count.count c.line-count.new.reader first.bytes first.value in
+    let first = c.in_ok-count.ensures in
+    let whole = counted c.new-reader.result c.new-reader.ensures.bytes c.new-reader.ensures.at c.in_ok-count.count c.line_count.new.reader first.bytes first.value in
     (c.loop-place.invariant.0, c.loop-place.reader.at, script_ends whole c.loop-place.place c.loop-place.reader c.loop-place.invariant.0 c.loop-place-test.false c.loop-place.invariant.1, c.loop-place.invariant.2)

@@ -3,7 +3,7 @@ use Rattle.agreement.specs.Agreements.{agreed}
 use Rattle.steps.proofs.Running.{script_readable}
 use Rattle.steps.proofs.scripts.run_script.Goals as goal
 
-pub do-script-requires : goal.do-script-requires
-do-script-requires g c =
+pub do_script-requires : goal.do_script-requires
+do_script-requires g c =
     script_readable (agreed (g.N.Order.meaning c.args.near.now) (g.F.Order.meaning c.args.far.now) c.args.agreement.now) c.args.bytes.now c.args.at
-    c.in-ok-judged.judged (sym c.in-ok-judged.ensures)
+    c.in_ok-judged.judged (sym c.in_ok-judged.ensures)

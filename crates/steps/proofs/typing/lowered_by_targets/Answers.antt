@@ -18,7 +18,7 @@ loop-assignment-preserved g c =
     let i = c.loop-assignment.assignment-index in
     let before = c.loop-assignment.lowest in
     let after = c.lowered-lowest.result in
-    let one = subst (λ (y : ℕ). Lowers P (y ∷ []) before after) c.label-of.ensures c.lowered-lowest.ensures in
+    let one = subst (λ (y : ℕ). Lowers P (y ∷ []) before after) c.label_of.ensures c.lowered-lowest.ensures in
     subst (λ (l : List ℕ). Lowers P l c.args.bound after) (sym (map_more label xs i blank c.loop-assignment-test.true))
     (lowers_then P (map label (take i xs)) (label (get_or xs i blank) ∷ []) c.args.bound before after c.loop-assignment.invariant one)
 

@@ -21,12 +21,12 @@ returns g c =
     let a = c.args.agreement.now in
     let N = g.N.Order.meaning self.near in
     let F = g.F.Order.meaning self.far in
-    let got = c.in-ok-certify.ensures in
+    let got = c.in_ok-certify.ensures in
     let maps : Maps = record { out = c.of.result; back = c.of-2.result } in
     let items : Items = record { near = c.of-3.result; far = c.of-4.result } in
     let maps_so : maps ≡ maps_of a = λ i. record { out = c.of.ensures i; back = c.of-2.ensures i } in
     let items_so : items ≡ both_items a = λ i. record { near = c.of-3.ensures i; far = c.of-4.ensures i } in
-    let at_draft : stage_judged self.stage Draft ≡ accepted = sym c.at-stage.ensures ∙ c.in-ok-at-stage.was in
+    let at_draft : stage_judged self.stage Draft ≡ accepted = sym c.at_stage.ensures ∙ c.in_ok-at_stage.was in
     let judged : accepted ≡ certify_judged self.stage (agreed N F a) =
     ap (under in_agreement) got.verdict ∙ sym (then_at (under in_agreement (certified (agreed N F a))) at_draft) in
     let copied : known_of N F maps items ≡ agreed N F a = ap₂ (known_of N F) maps_so items_so ∙ kept N F a in

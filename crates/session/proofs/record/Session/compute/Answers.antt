@@ -12,21 +12,21 @@ use Rattle.session.specs.declared.record.Session.{Session}
 use Rattle.session.proofs.Gates.{open_values, step_answer}
 use Rattle.session.proofs.record.Session.compute.Goals as goal
 
-pub returns-in-err-compute : goal.returns-in-err-compute
-returns-in-err-compute g c =
+pub returns-in_err-compute : goal.returns-in_err-compute
+returns-in_err-compute g c =
     let self = c.args.self.now in
     let N = g.N.Order.meaning self.near in
     let F = g.F.Order.meaning self.far in
     let K = agreed N F c.lent-agreement.result in
     let J = known_of N F self.maps self.table.items in
     let same = c.lent-agreement.ensures N F in
-    let is_open : stage_judged self.stage Open ≡ accepted = sym c.at-stage.ensures ∙ c.in-ok-at-stage.was in
-    let got = c.in-err-compute.ensures in
-    let e = c.in-err-compute.field-0.0 in
-    let by = c.from-residual-in-err-compute.ensures.1 in
+    let is_open : stage_judged self.stage Open ≡ accepted = sym c.at_stage.ensures ∙ c.in_ok-at_stage.was in
+    let got = c.in_err-compute.ensures in
+    let e = c.in_err-compute.field-0.0 in
+    let by = c.from_residual-in_err-compute.ensures.1 in
     let left : Values → Session g.row.N.Denot g.row.F.Denot = λ w. record { near = self.near; far = self.far; maps = self.maps; stage = self.stage; table = record { items = self.table.items; values = w } } in
     record {
-      answer = ap as_done (break_is c.from-residual-in-err-compute.result (in_step e) by) ∙ step_answer self.stage is_open K J same self.table.values (compute c.args.side c.args.assignments.now) (Err e) got.answer;
+      answer = ap as_done (break_is c.from_residual-in_err-compute.result (in_step e) by) ∙ step_answer self.stage is_open K J same self.table.values (compute c.args.side c.args.assignments.now) (Err e) got.answer;
       «record» = ap left (open_values self.stage is_open K J same self.table.values (step (compute c.args.side c.args.assignments.now)) c.compute.new.values got.values);
     }
 
@@ -38,10 +38,10 @@ returns g c =
     let K = agreed N F c.lent-agreement.result in
     let J = known_of N F self.maps self.table.items in
     let same = c.lent-agreement.ensures N F in
-    let is_open : stage_judged self.stage Open ≡ accepted = sym c.at-stage.ensures ∙ c.in-ok-at-stage.was in
-    let got = c.in-ok-compute.ensures in
+    let is_open : stage_judged self.stage Open ≡ accepted = sym c.at_stage.ensures ∙ c.in_ok-at_stage.was in
+    let got = c.in_ok-compute.ensures in
     let left : Values → Session g.row.N.Denot g.row.F.Denot = λ w. record { near = self.near; far = self.far; maps = self.maps; stage = self.stage; table = record { items = self.table.items; values = w } } in
     record {
-      answer = step_answer self.stage is_open K J same self.table.values (compute c.args.side c.args.assignments.now) (Ok c.in-ok-compute.field-0) got.answer;
+      answer = step_answer self.stage is_open K J same self.table.values (compute c.args.side c.args.assignments.now) (Ok c.in_ok-compute.field-0) got.answer;
       «record» = ap left (open_values self.stage is_open K J same self.table.values (step (compute c.args.side c.args.assignments.now)) c.compute.new.values got.values);
     }

@@ -9,20 +9,20 @@ use Rattle.machine.specs.declared.fault.CallFault.TheVariants.{Script as in_scri
 use Rattle.session.proofs.Gates.{script_answer}
 use Rattle.session.proofs.record.Session.judge.Goals as goal
 
-pub returns-in-err-typed : goal.returns-in-err-typed
-returns-in-err-typed g c =
+pub returns-in_err-typed : goal.returns-in_err-typed
+returns-in_err-typed g c =
     let self = c.args.self.now in
     let N = g.N.Order.meaning self.near in
     let F = g.F.Order.meaning self.far in
     let K = agreed N F c.lent-agreement.result in
     let J = known_of N F self.maps self.table.items in
     let same = c.lent-agreement.ensures N F in
-    let may : may_judge self.stage ≡ accepted = sym c.may-judge.ensures ∙ c.in-ok-may-judge.was in
+    let may : may_judge self.stage ≡ accepted = sym c.may_judge.ensures ∙ c.in_ok-may_judge.was in
     let v = self.table.values in
     let gate = ap (λ (j : Judgement CallFault). gated j (answer J v (run c.args.bytes.now c.args.at))) (sym may) in
-    let e = c.in-err-typed.field-0.0 in
-    ap as_typed (break_is c.from-residual-in-err-typed.result (in_script e) c.from-residual-in-err-typed.ensures.1)
-    ∙ script_answer K J same v c.args.bytes.now c.args.at (Err e) c.in-err-typed.ensures ∙ gate
+    let e = c.in_err-typed.field-0.0 in
+    ap as_typed (break_is c.from_residual-in_err-typed.result (in_script e) c.from_residual-in_err-typed.ensures.1)
+    ∙ script_answer K J same v c.args.bytes.now c.args.at (Err e) c.in_err-typed.ensures ∙ gate
 
 pub returns : goal.returns
 returns g c =
@@ -32,7 +32,7 @@ returns g c =
     let K = agreed N F c.lent-agreement.result in
     let J = known_of N F self.maps self.table.items in
     let same = c.lent-agreement.ensures N F in
-    let may : may_judge self.stage ≡ accepted = sym c.may-judge.ensures ∙ c.in-ok-may-judge.was in
+    let may : may_judge self.stage ≡ accepted = sym c.may_judge.ensures ∙ c.in_ok-may_judge.was in
     let v = self.table.values in
     let gate = ap (λ (j : Judgement CallFault). gated j (answer J v (run c.args.bytes.now c.args.at))) (sym may) in
-    script_answer K J same v c.args.bytes.now c.args.at (Ok c.in-ok-typed.typed) c.in-ok-typed.ensures ∙ gate
+    script_answer K J same v c.args.bytes.now c.args.at (Ok c.in_ok-typed.typed) c.in_ok-typed.ensures ∙ gate

@@ -11,22 +11,22 @@ use Rattle.session.specs.declared.record.Session.{Session}
 use Rattle.session.proofs.Gates.{open_values, run_answer}
 use Rattle.session.proofs.record.Session.run.Goals as goal
 
-pub returns-in-err-typed : goal.returns-in-err-typed
-returns-in-err-typed g c =
+pub returns-in_err-typed : goal.returns-in_err-typed
+returns-in_err-typed g c =
     let self = c.args.self.now in
     let N = g.N.Order.meaning self.near in
     let F = g.F.Order.meaning self.far in
     let K = agreed N F c.lent-agreement.result in
     let J = known_of N F self.maps self.table.items in
     let same = c.lent-agreement.ensures N F in
-    let is_open : stage_judged self.stage Open ≡ accepted = sym c.at-stage.ensures ∙ c.in-ok-at-stage.was in
-    let got = c.in-err-typed.ensures in
-    let e = c.in-err-typed.field-0.0 in
-    let by = c.from-residual-in-err-typed.ensures.1 in
+    let is_open : stage_judged self.stage Open ≡ accepted = sym c.at_stage.ensures ∙ c.in_ok-at_stage.was in
+    let got = c.in_err-typed.ensures in
+    let e = c.in_err-typed.field-0.0 in
+    let by = c.from_residual-in_err-typed.ensures.1 in
     let left : Values → Session g.row.N.Denot g.row.F.Denot = λ w. record { near = self.near; far = self.far; maps = self.maps; stage = self.stage; table = record { items = self.table.items; values = w } } in
     record {
-      answer = ap as_typed (break_is c.from-residual-in-err-typed.result (in_script e) by) ∙ run_answer self.stage is_open K J same self.table.values c.args.bytes.now c.args.at (Err e) got.answer;
-      «record» = ap left (open_values self.stage is_open K J same self.table.values (run c.args.bytes.now c.args.at) c.run-script.new.values got.values);
+      answer = ap as_typed (break_is c.from_residual-in_err-typed.result (in_script e) by) ∙ run_answer self.stage is_open K J same self.table.values c.args.bytes.now c.args.at (Err e) got.answer;
+      «record» = ap left (open_values self.stage is_open K J same self.table.values (run c.args.bytes.now c.args.at) c.run_script.new.values got.values);
     }
 
 pub returns : goal.returns
@@ -37,10 +37,10 @@ returns g c =
     let K = agreed N F c.lent-agreement.result in
     let J = known_of N F self.maps self.table.items in
     let same = c.lent-agreement.ensures N F in
-    let is_open : stage_judged self.stage Open ≡ accepted = sym c.at-stage.ensures ∙ c.in-ok-at-stage.was in
-    let got = c.in-ok-typed.ensures in
+    let is_open : stage_judged self.stage Open ≡ accepted = sym c.at_stage.ensures ∙ c.in_ok-at_stage.was in
+    let got = c.in_ok-typed.ensures in
     let left : Values → Session g.row.N.Denot g.row.F.Denot = λ w. record { near = self.near; far = self.far; maps = self.maps; stage = self.stage; table = record { items = self.table.items; values = w } } in
     record {
-      answer = run_answer self.stage is_open K J same self.table.values c.args.bytes.now c.args.at (Ok c.in-ok-typed.typed) got.answer;
-      «record» = ap left (open_values self.stage is_open K J same self.table.values (run c.args.bytes.now c.args.at) c.run-script.new.values got.values);
+      answer = run_answer self.stage is_open K J same self.table.values c.args.bytes.now c.args.at (Ok c.in_ok-typed.typed) got.answer;
+      «record» = ap left (open_values self.stage is_open K J same self.table.values (run c.args.bytes.now c.args.at) c.run_script.new.values got.values);
     }

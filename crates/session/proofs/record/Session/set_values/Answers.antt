@@ -11,43 +11,43 @@ use Rattle.session.specs.declared.record.Session.{Session}
 use Rattle.session.proofs.Fronts.{filled_padded}
 use Rattle.session.proofs.record.Session.set_values.Goals as goal
 
-pub returns-in-err-of-length : goal.returns-in-err-of-length
-returns-in-err-of-length g c =
+pub returns-in_err-of_length : goal.returns-in_err-of_length
+returns-in_err-of_length g c =
     let self = c.args.self.now in
     let N = g.N.Order.meaning self.near in
     let F = g.F.Order.meaning self.far in
     let J = known_of N F self.maps self.table.items in
     let near = c.args.near.now in
     let far = c.args.far.now in
-    let certified_now : stage_judged self.stage Certified ≡ accepted = sym c.at-stage.ensures ∙ c.in-ok-at-stage.was in
-    let near_so : c.of-length.result ≡ length_judged J Near near = c.of-length.ensures.answer in
+    let certified_now : stage_judged self.stage Certified ≡ accepted = sym c.at_stage.ensures ∙ c.in_ok-at_stage.was in
+    let near_so : c.of_length.result ≡ length_judged J Near near = c.of_length.ensures.answer in
     let left : Judgement CallFault → Session g.row.N.Denot g.row.F.Denot = λ j. record { near = self.near; far = self.far; maps = self.maps; stage = if_so j Open self.stage; table = record { items = self.table.items; values = if_so j (opened near far) self.table.values } } in
-    let e = c.in-err-of-length.field-0.0 in
-    let first : Err e ≡ length_judged J Near near = sym c.in-err-of-length.was ∙ near_so in
+    let e = c.in_err-of_length.field-0.0 in
+    let first : Err e ≡ length_judged J Near near = sym c.in_err-of_length.was ∙ near_so in
     let judged : Err e ≡ open_judged self.stage J near far = sym (then_at (opening_judged J near far) certified_now ∙ then_at (length_judged J Far far) (sym first)) in
     record {
-      answer = break_is c.from-residual-in-err-of-length.result e c.from-residual-in-err-of-length.ensures.1 ∙ judged;
+      answer = break_is c.from_residual-in_err-of_length.result e c.from_residual-in_err-of_length.ensures.1 ∙ judged;
       «record» = ap left judged;
     }
 
-pub returns-in-err-of-length-2 : goal.returns-in-err-of-length-2
-returns-in-err-of-length-2 g c =
+pub returns-in_err-of_length-2 : goal.returns-in_err-of_length-2
+returns-in_err-of_length-2 g c =
     let self = c.args.self.now in
     let N = g.N.Order.meaning self.near in
     let F = g.F.Order.meaning self.far in
     let J = known_of N F self.maps self.table.items in
     let near = c.args.near.now in
     let far = c.args.far.now in
-    let certified_now : stage_judged self.stage Certified ≡ accepted = sym c.at-stage.ensures ∙ c.in-ok-at-stage.was in
-    let near_so : c.of-length.result ≡ length_judged J Near near = c.of-length.ensures.answer in
-    let far_so : c.of-length-2.result ≡ length_judged J Far far = c.of-length-2.ensures.answer in
-    let near_ok : length_judged J Near near ≡ accepted = sym near_so ∙ c.in-ok-of-length.was in
+    let certified_now : stage_judged self.stage Certified ≡ accepted = sym c.at_stage.ensures ∙ c.in_ok-at_stage.was in
+    let near_so : c.of_length.result ≡ length_judged J Near near = c.of_length.ensures.answer in
+    let far_so : c.of_length-2.result ≡ length_judged J Far far = c.of_length-2.ensures.answer in
+    let near_ok : length_judged J Near near ≡ accepted = sym near_so ∙ c.in_ok-of_length.was in
     let left : Judgement CallFault → Session g.row.N.Denot g.row.F.Denot = λ j. record { near = self.near; far = self.far; maps = self.maps; stage = if_so j Open self.stage; table = record { items = self.table.items; values = if_so j (opened near far) self.table.values } } in
-    let e = c.in-err-of-length-2.field-0.0 in
-    let second : Err e ≡ length_judged J Far far = sym c.in-err-of-length-2.was ∙ far_so in
+    let e = c.in_err-of_length-2.field-0.0 in
+    let second : Err e ≡ length_judged J Far far = sym c.in_err-of_length-2.was ∙ far_so in
     let judged : Err e ≡ open_judged self.stage J near far = sym (then_at (opening_judged J near far) certified_now ∙ then_at (length_judged J Far far) near_ok ∙ sym second) in
     record {
-      answer = break_is c.from-residual-in-err-of-length-2.result e c.from-residual-in-err-of-length-2.ensures.1 ∙ judged;
+      answer = break_is c.from_residual-in_err-of_length-2.result e c.from_residual-in_err-of_length-2.ensures.1 ∙ judged;
       «record» = ap left judged;
     }
 
@@ -59,12 +59,12 @@ returns g c =
     let J = known_of N F self.maps self.table.items in
     let near = c.args.near.now in
     let far = c.args.far.now in
-    let certified_now : stage_judged self.stage Certified ≡ accepted = sym c.at-stage.ensures ∙ c.in-ok-at-stage.was in
-    let near_so : c.of-length.result ≡ length_judged J Near near = c.of-length.ensures.answer in
-    let far_so : c.of-length-2.result ≡ length_judged J Far far = c.of-length-2.ensures.answer in
-    let near_ok : length_judged J Near near ≡ accepted = sym near_so ∙ c.in-ok-of-length.was in
+    let certified_now : stage_judged self.stage Certified ≡ accepted = sym c.at_stage.ensures ∙ c.in_ok-at_stage.was in
+    let near_so : c.of_length.result ≡ length_judged J Near near = c.of_length.ensures.answer in
+    let far_so : c.of_length-2.result ≡ length_judged J Far far = c.of_length-2.ensures.answer in
+    let near_ok : length_judged J Near near ≡ accepted = sym near_so ∙ c.in_ok-of_length.was in
     let left : Judgement CallFault → Session g.row.N.Denot g.row.F.Denot = λ j. record { near = self.near; far = self.far; maps = self.maps; stage = if_so j Open self.stage; table = record { items = self.table.items; values = if_so j (opened near far) self.table.values } } in
-    let far_ok : length_judged J Far far ≡ accepted = sym far_so ∙ c.in-ok-of-length-2.was in
+    let far_ok : length_judged J Far far ≡ accepted = sym far_so ∙ c.in_ok-of_length-2.was in
     let judged : accepted ≡ open_judged self.stage J near far = sym (then_at (opening_judged J near far) certified_now ∙ then_at (length_judged J Far far) near_ok ∙ far_ok) in
     let set_so : List ℕ → List ℕ → Session g.row.N.Denot g.row.F.Denot = λ x y. record { near = self.near; far = self.far; maps = self.maps; stage = Open; table = record { items = self.table.items; values = record { near = x; far = y } } } in
     record {

@@ -11,21 +11,21 @@ use Rattle.session.specs.declared.record.Session.{Session}
 use Rattle.session.proofs.Gates.{open_values, step_answer}
 use Rattle.session.proofs.record.Session.take.Goals as goal
 
-pub returns-in-err-perform : goal.returns-in-err-perform
-returns-in-err-perform g c =
+pub returns-in_err-perform : goal.returns-in_err-perform
+returns-in_err-perform g c =
     let self = c.args.self.now in
     let N = g.N.Order.meaning self.near in
     let F = g.F.Order.meaning self.far in
     let K = agreed N F c.lent-agreement.result in
     let J = known_of N F self.maps self.table.items in
     let same = c.lent-agreement.ensures N F in
-    let is_open : stage_judged self.stage Open ≡ accepted = sym c.at-stage.ensures ∙ c.in-ok-at-stage.was in
-    let got = c.in-err-perform.ensures in
-    let e = c.in-err-perform.field-0.0 in
-    let by = c.from-residual-in-err-perform.ensures.1 in
+    let is_open : stage_judged self.stage Open ≡ accepted = sym c.at_stage.ensures ∙ c.in_ok-at_stage.was in
+    let got = c.in_err-perform.ensures in
+    let e = c.in_err-perform.field-0.0 in
+    let by = c.from_residual-in_err-perform.ensures.1 in
     let left : Values → Session g.row.N.Denot g.row.F.Denot = λ w. record { near = self.near; far = self.far; maps = self.maps; stage = self.stage; table = record { items = self.table.items; values = w } } in
     record {
-      answer = ap as_done (break_is c.from-residual-in-err-perform.result (in_step e) by) ∙ step_answer self.stage is_open K J same self.table.values (line_step c.args.line.now) (Err e) got.answer;
+      answer = ap as_done (break_is c.from_residual-in_err-perform.result (in_step e) by) ∙ step_answer self.stage is_open K J same self.table.values (line_step c.args.line.now) (Err e) got.answer;
       «record» = ap left (open_values self.stage is_open K J same self.table.values (step (line_step c.args.line.now)) c.perform.new.values got.values);
     }
 
@@ -37,10 +37,10 @@ returns g c =
     let K = agreed N F c.lent-agreement.result in
     let J = known_of N F self.maps self.table.items in
     let same = c.lent-agreement.ensures N F in
-    let is_open : stage_judged self.stage Open ≡ accepted = sym c.at-stage.ensures ∙ c.in-ok-at-stage.was in
-    let got = c.in-ok-perform.ensures in
+    let is_open : stage_judged self.stage Open ≡ accepted = sym c.at_stage.ensures ∙ c.in_ok-at_stage.was in
+    let got = c.in_ok-perform.ensures in
     let left : Values → Session g.row.N.Denot g.row.F.Denot = λ w. record { near = self.near; far = self.far; maps = self.maps; stage = self.stage; table = record { items = self.table.items; values = w } } in
     record {
-      answer = step_answer self.stage is_open K J same self.table.values (line_step c.args.line.now) (Ok c.in-ok-perform.field-0) got.answer;
+      answer = step_answer self.stage is_open K J same self.table.values (line_step c.args.line.now) (Ok c.in_ok-perform.field-0) got.answer;
       «record» = ap left (open_values self.stage is_open K J same self.table.values (step (line_step c.args.line.now)) c.perform.new.values got.values);
     }
