@@ -51,7 +51,7 @@ fn passed<P: Drop, Q: Drop>(
         }
         Err(returned) => {
             rt.println(returned.fault.refused())?;
-            Err(call.into())
+            Err(anyhow!("{call}"))
         }
     }
 }

@@ -8,7 +8,7 @@ use Rattle.agreement.specs.Certified.{certified}
 use Rattle.machine.specs.Calls.{script_judged}
 use Rattle.machine.specs.Faults.{call_refused}
 use Rattle.machine.specs.declared.script_type.ScriptType.{ScriptType}
-use Rattle.sheet.specs.Refusing.{sheet-refused}
+use Rattle.sheet.specs.Verdicts.{sheet_verdict}
 use Rattle.sheet.specs.declared.parts.Sheet.{Sheet}
 use Rattle.tables.specs.Faults.{refusal_of}
 use Rattle.verdict.specs.Opening.{described, HousesStand, RefusedFor}
@@ -19,7 +19,7 @@ use Rattle.verdict.specs.declared.opened.Verdict.TheVariants.{Accept, Refuse}
 
 -- what each fault of a sheet is refused with: its line, and number, side, p and q
 abbrev pub judge_refused : JudgeFault → Refused
-judge_refused (in_sheet e) = sheet-refused e
+judge_refused (in_sheet e) = let v = sheet_verdict e in record { line = v.line; refusal = v.refusal }
 judge_refused (House side e) =
     let r = refusal_of e in
     record { line = 0; refusal = record { number = r.number; side = Some side; p = r.p; q = r.q } }

@@ -10,7 +10,13 @@ impl JudgeFault {
         ensures { result ≡ judge_refused self.now }
     {
         match *self {
-            JudgeFault::Sheet(fault) => fault.refused(),
+            JudgeFault::Sheet(fault) => {
+                let verdict = fault.verdict();
+                Refused {
+                    line: verdict.line,
+                    refusal: verdict.refusal,
+                }
+            }
             JudgeFault::House { side, fault } => Refused {
                 line: 0,
                 refusal: Refusal {

@@ -1,4 +1,5 @@
 // The words of a call: none, or a house and a label.
+use anyhow::anyhow;
 use refusal::Side;
 use std::env;
 
@@ -11,7 +12,7 @@ pub(crate) enum Question {
 // What is said of a wrong call.
 pub(crate) fn usage(rt: &HostRuntime, wrong: &str) -> anyhow::Error {
     let _ = eprintln!(rt; "usage: view [HOUSE LABEL] < SHEET, where HOUSE is near or far");
-    wrong.into()
+    anyhow!("{wrong}")
 }
 
 fn house_word(word: &str) -> Option<Side> {
