@@ -1,6 +1,6 @@
 -- The law of formats, both ways: what is read was written so, and what is written is read back. Assumes nothing.
 use Rattle.std.proofs.Common.{◌≡◌, ℕ, zero, suc, ◌+◌, ◌-◌, ◌≤◌, Bool, true, false, ◌⊎◌, List, [], ◌∷◌, ◌++◌, reverse, length, take, Ok, MatchBool, sym, refl, ap, ◌∙◌, subst, ap₂, inl, inr, arith}
-use Rattle.std.specs.List.{flat_map, AllByRecursion as All}
+use Rattle.std.specs.List.{flat_map, AllByRecursion}
 use Rattle.std.proofs.lemmas.List.{length-append, length-reverse, take_at}
 use Rattle.bits.specs.Bits.{bits_of, piece}
 use Rattle.bits.proofs.Bits.{length_bits_of}
@@ -23,10 +23,10 @@ joins bits p q r xs ys first h second k = (
 
 -- values in a row
 module _ {E F A : Type 0} (Can : A → Type 0) (wrote : A → List Bool) (wrap : ℕ → E → F) (bits : List Bool) (one : ℕ → Reading E A) where
-  row_was_written : ((p : ℕ) (a : A) (q : ℕ) → one p ≡ Ok (a, q) → Written Can wrote bits p a q) → (n i p : ℕ) (xs : List A) (q : ℕ) → row_at wrap one i n p ≡ Ok (xs, q) → Written (λ xs. (length xs ≡ n) × All Can xs) (flat_map wrote) bits p xs q
+  row_was_written : ((p : ℕ) (a : A) (q : ℕ) → one p ≡ Ok (a, q) → Written Can wrote bits p a q) → (n i p : ℕ) (xs : List A) (q : ℕ) → row_at wrap one i n p ≡ Ok (xs, q) → Written (λ xs. (length xs ≡ n) × AllByRecursion Can xs) (flat_map wrote) bits p xs q
   row_was_written each zero i p xs q e =
       let same = ok_same [] xs p q e in
-      subst (λ (l : List A). Written (λ xs. (length xs ≡ 0) × All Can xs) (flat_map wrote) bits p l q) same.0
+      subst (λ (l : List A). Written (λ xs. (length xs ≡ 0) × AllByRecursion Can xs) (flat_map wrote) bits p l q) same.0
       (record { can = (refl, tt); next = omega (arith, same.1); stands = refl })
   row_was_written each (suc n) i p xs q e =
       let was = followed_ok (under (wrap i) (one p)) (λ a m. followed (row_at wrap one (suc i) n m) (λ rest r. Ok (a ∷ rest, r))) xs q e in
@@ -37,10 +37,10 @@ module _ {E F A : Type 0} (Can : A → Type 0) (wrote : A → List Bool) (wrap :
       let rest = row_was_written each n (suc i) m later.value later.place later.first in
       let same = ok_same (a ∷ later.value) xs later.place q later.then in
       let both = joins bits p m later.place (wrote a) (flat_map wrote later.value) first.next first.stands rest.next rest.stands in
-      subst (λ (l : List A). Written (λ xs. (length xs ≡ suc n) × All Can xs) (flat_map wrote) bits p l q) same.0
+      subst (λ (l : List A). Written (λ xs. (length xs ≡ suc n) × AllByRecursion Can xs) (flat_map wrote) bits p l q) same.0
       (record { can = (ap suc rest.can.0, (first.can, rest.can.1)); next = sym same.1 ∙ both.0; stands = both.1 })
 
-  row_back : ((p : ℕ) (a : A) → Can a → Stands bits p (wrote a) → one p ≡ Ok (a, p + length (wrote a))) → (n i p : ℕ) (xs : List A) → length xs ≡ n → All Can xs → Stands bits p (flat_map wrote xs) → row_at wrap one i n p ≡ Ok (xs, p + length (flat_map wrote xs))
+  row_back : ((p : ℕ) (a : A) → Can a → Stands bits p (wrote a) → one p ≡ Ok (a, p + length (wrote a))) → (n i p : ℕ) (xs : List A) → length xs ≡ n → AllByRecursion Can xs → Stands bits p (flat_map wrote xs) → row_at wrap one i n p ≡ Ok (xs, p + length (flat_map wrote xs))
   row_back each zero i p [] e all h = ap (λ (n : ℕ). Ok ([], n)) (omega arith)
   row_back each zero i p (x ∷ xs) e all h = absurd (omega arith)
   row_back each (suc n) i p [] e all h = absurd (omega arith)

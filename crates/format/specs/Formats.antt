@@ -1,6 +1,6 @@
 -- Formats of bits, as a small language: what a format reads at a bit, how it writes a value, and which values it can write.
 use Rattle.std.specs.Prelude.{◌≡◌, ℕ, zero, suc, ◌+◌, ◌-◌, ◌%◌, ◌^◌, ◌<◌, ◌≤◌, Bool, true, false, cond, ◌&&◌, List, [], ◌∷◌, ◌++◌, reverse, length, take, replicate, Ok, Err, MatchBool, Result, MatchResult, nat_le}
-use Rattle.std.specs.List.{flat_map, AllByRecursion as All}
+use Rattle.std.specs.List.{flat_map, AllByRecursion}
 use Rattle.bits.specs.Bits.{all_bits, bits_of, number, piece}
 use Rattle.bits.specs.declared.reader.Reader.{Reader}
 use Rattle.format.specs.declared.fault.FieldFault.{FieldFault}
@@ -92,7 +92,7 @@ Writes (turned w) v = v < 2 ^ w
 Writes (part f get rest) b = Writes f (get b) × Writes (rest (get b)) b
 Writes (either b f g) a = MatchBool b (Writes f a) (Writes g a)
 Writes (inside wrap f) a = Writes f a
-Writes (many n wrap f) xs = (length xs ≡ n) × All (Writes f) xs
+Writes (many n wrap f) xs = (length xs ≡ n) × AllByRecursion (Writes f) xs
 
 -- a format whose fields have 1 to 64 bits, and whose getters find what was read
 abbrev pub Sound : {F A : Type 0} → Format F A → Type 0

@@ -1,6 +1,6 @@
 -- The writes of an accepted call are lawful: each into a known item, of known items that may come to be there. Assumes nothing.
 use Rattle.std.proofs.Common.{◌≡◌, ℕ, zero, suc, ◌<◌, Bool, true, false, ◌&&◌, eqb, ltb, leb, List, [], ◌∷◌, ◌++◌, map, length, get_or, Some, None, Ok, Err, Option, Result, sym, refl, ap, ◌∙◌, subst, arith}
-use Rattle.std.specs.List.{flat_map, AllByRecursion as All}
+use Rattle.std.specs.List.{flat_map, AllByRecursion}
 use Rattle.std.proofs.ByRecursion.{All-from_get_or, All-map, All-append}
 use Rattle.std.proofs.lemmas.Bool.{ltb-true, and_parts}
 use Rattle.bits.specs.Bits.{all_bits}
@@ -41,7 +41,7 @@ Readable J to p = KnownItem J p × (reaches J p.side (item_at J p).label to.side
 
 pub record LawfulWrite (J : Joint) (w : Write) : Type 0 where
   pub known : KnownItem J w.target
-  pub reads : All (Readable J w.target) w.reads
+  pub reads : AllByRecursion (Readable J w.target) w.reads
 
 pub item_known : (s : Side) (xs : List Item) (i : ℕ) (role : Option Role) → item_judged s xs i role ≡ accepted → i < length xs
 item_known s xs i role e =
@@ -49,7 +49,7 @@ item_known s xs i role e =
 
 module _ (J : Joint) where
   -- the items that are read, and that flow to the label of the target
-  reads_lawful : (s : Side) (t : ℕ) (is : List ℕ) → all_working s (J.items s) is ≡ accepted → all_flow (J.order s) (J.items s) is (label_of (J.items s) t) ≡ true → All (Readable J (place s t)) (map (place s) is)
+  reads_lawful : (s : Side) (t : ℕ) (is : List ℕ) → all_working s (J.items s) is ≡ accepted → all_flow (J.order s) (J.items s) is (label_of (J.items s) t) ≡ true → AllByRecursion (Readable J (place s t)) (map (place s) is)
   reads_lawful s t [] w f = tt
   reads_lawful s t (i ∷ is) w f =
       let roles = both_accepted (item_judged s (J.items s) i (Some Working)) (all_working s (J.items s) is) w in
@@ -62,7 +62,7 @@ module _ (J : Joint) where
       record { known = item_known s (J.items s) a.target (Some Working) roles.0; reads = reads_lawful s a.target (operands a) roles.1 f }
 
   -- of an accepted compute only this is used: the operands of each assignment flow to its own target
-  compute_lawful : (s : Side) (bs : List Assignment) → compute_judged (J.order s) s (J.items s) bs ≡ accepted → All (LawfulWrite J) (map (assignment_write s) bs)
+  compute_lawful : (s : Side) (bs : List Assignment) → compute_judged (J.order s) s (J.items s) bs ≡ accepted → AllByRecursion (LawfulWrite J) (map (assignment_write s) bs)
   compute_lawful s bs e =
       let P = J.order s in
       let xs = J.items s in
@@ -74,7 +74,7 @@ module _ (J : Joint) where
       (check_accepted (all_flow P xs (operands (get_or bs k blank)) (label_of xs (get_or bs k blank).target)) (NotAllowed (Some s) k k)
       (below_accepted (pair_judged P s xs bs k) (length bs) (below_accepted (target_judged P s xs bs) (length bs) both.1 k h) k h))))
 
-  copy_lawful : (s : Side) (to from : Role) (t q : ℕ) → copy_judged (J.order s) s (J.items s) to from t q ≡ accepted → All (LawfulWrite J) (copy_write (place s t) (place s q) ∷ [])
+  copy_lawful : (s : Side) (to from : Role) (t q : ℕ) → copy_judged (J.order s) s (J.items s) to from t q ≡ accepted → AllByRecursion (LawfulWrite J) (copy_write (place s t) (place s q) ∷ [])
   copy_lawful s to from t q e =
       let xs = J.items s in
       let f = check ((J.order s).flow (label_of xs q) (label_of xs t)) (NotAllowed (Some s) t q) in
@@ -92,7 +92,7 @@ module _ (J : Joint) where
   pub across_lawful : (s : Side) (t q : ℕ) → t < length (J.items (other s)) → q < length (J.items s) → moves (J.order s) (J.order (other s)) (J.map s) (label_of (J.items s) q) (label_of (J.items (other s)) t) ≡ true → LawfulWrite J (copy_write (place (other s) t) (place s q))
   across_lawful s t q ht hq m = record { known = ht; reads = ((hq, reaches_across J s (label_of (J.items s) q) (label_of (J.items (other s)) t) m), tt) }
 
-  move_lawful : (s : Side) (t q : ℕ) → step_judged J (move s t q) ≡ accepted → All (LawfulWrite J) (step_writes (move s t q))
+  move_lawful : (s : Side) (t q : ℕ) → step_judged J (move s t q) ≡ accepted → AllByRecursion (LawfulWrite J) (step_writes (move s t q))
   move_lawful s t q e =
       let xs = J.items s in
       let ys = J.items (other s) in
@@ -101,20 +101,20 @@ module _ (J : Joint) where
       let second = both_accepted (item_judged s xs q (Some Export)) (check m (NotAllowed None t q)) first.1 in
       (across_lawful s t q (item_known (other s) ys t (Some Import) first.0) (item_known s xs q (Some Export) second.0) (check_accepted m (NotAllowed None t q) second.1), tt)
 
-  pub step_lawful : (x : Step) → step_judged J x ≡ accepted → All (LawfulWrite J) (step_writes x)
+  pub step_lawful : (x : Step) → step_judged J x ≡ accepted → AllByRecursion (LawfulWrite J) (step_writes x)
   step_lawful (compute s bs) e = compute_lawful s bs e
   step_lawful (fetch s t q) e = copy_lawful s Working Import t q e
   step_lawful (store s t q) e = copy_lawful s Export Working t q e
   step_lawful (move s t q) e = move_lawful s t q e
 
   -- the lines of an accepted script are accepted
-  pub lines_accepted : (k : ℕ) (ls : List Line) → lines_judged J k ls ≡ accepted → All (λ l. step_judged J (line_step l) ≡ accepted) ls
+  pub lines_accepted : (k : ℕ) (ls : List Line) → lines_judged J k ls ≡ accepted → AllByRecursion (λ l. step_judged J (line_step l) ≡ accepted) ls
   lines_accepted k [] e = tt
   lines_accepted k (l ∷ ls) e =
       let both = both_accepted (under (at_line k) (step_judged J (line_step l))) (lines_judged J (suc k) ls) e in
       (under_accepted (at_line k) (step_judged J (line_step l)) both.0, lines_accepted (suc k) ls both.1)
 
-  lines_lawful : (ls : List Line) → All (λ l. step_judged J (line_step l) ≡ accepted) ls → All (LawfulWrite J) (flat_map (λ l. step_writes (line_step l)) ls)
+  lines_lawful : (ls : List Line) → AllByRecursion (λ l. step_judged J (line_step l) ≡ accepted) ls → AllByRecursion (LawfulWrite J) (flat_map (λ l. step_writes (line_step l)) ls)
   lines_lawful [] all = tt
   lines_lawful (l ∷ ls) all = All-append (LawfulWrite J) (step_writes (line_step l)) (flat_map (λ l. step_writes (line_step l)) ls) (step_lawful (line_step l) all.0) (lines_lawful ls all.1)
 
@@ -123,7 +123,7 @@ pub record ScriptAccepted (J : Joint) (bytes : List ℕ) (at : ℕ) (T : ScriptT
   pub lines : List Line
   pub end : ℕ
   pub was_read : read script (all_bits bytes) at ≡ Ok (lines, end)
-  pub each : All (λ l. step_judged J (line_step l) ≡ accepted) lines
+  pub each : AllByRecursion (λ l. step_judged J (line_step l) ≡ accepted) lines
   pub type : script_type J (map line_step lines) ≡ T
   pub writes : script_writes bytes at ≡ flat_map (λ l. step_writes (line_step l)) lines
 
@@ -142,21 +142,21 @@ script_accepted J bytes at T e = go (read script (all_bits bytes) at) refl e
         record { lines = x.0; end = x.1; was_read = q; each = lines_accepted J 1 x.0 both.0; type = both.1; writes = ap line_writes q }
     go (Err y) q e = let z : ◌≡◌ {A = ℕ} 0 1 = cc in absurd (omega arith)
 
-pub plan_lawful : (J : Joint) (c : Call) (p : Plan) → plan J c ≡ Ok p → All (LawfulWrite J) p.writes
+pub plan_lawful : (J : Joint) (c : Call) (p : Plan) → plan J c ≡ Ok p → AllByRecursion (LawfulWrite J) p.writes
 plan_lawful J (step x) p e =
     let both = accepted_if (under in_step (step_judged J x)) (record { writes = step_writes x; promise = fixed done }) p e in
-    subst (λ (y : Plan). All (LawfulWrite J) y.writes) both.1 (step_lawful J x (under_accepted in_step (step_judged J x) both.0))
+    subst (λ (y : Plan). AllByRecursion (LawfulWrite J) y.writes) both.1 (step_lawful J x (under_accepted in_step (step_judged J x) both.0))
 plan_lawful J (show s l i) p e =
     let both = accepted_if (under in_step (show_judged (J.order s) s (J.items s) l i)) (record { writes = []; promise = value_at (place s i) }) p e in
-    subst (λ (y : Plan). All (LawfulWrite J) y.writes) both.1 tt
+    subst (λ (y : Plan). AllByRecursion (LawfulWrite J) y.writes) both.1 tt
 plan_lawful J (run bytes at) p e = go (script_judged J bytes at) refl e
   where
-    go : (r : Result ScriptType RunFault) → script_judged J bytes at ≡ r → run_plan r (script_writes bytes at) ≡ Ok p → All (LawfulWrite J) p.writes
+    go : (r : Result ScriptType RunFault) → script_judged J bytes at ≡ r → run_plan r (script_writes bytes at) ≡ Ok p → AllByRecursion (LawfulWrite J) p.writes
     go (Ok T) q e =
         let a = script_accepted J bytes at T q in
         let same : record { writes = script_writes bytes at; promise = fixed (typed T) } ≡ p = ok_same e in
-        subst (λ (y : Plan). All (LawfulWrite J) y.writes) same
-        (subst (λ (ws : List Write). All (LawfulWrite J) ws) (sym a.writes) (lines_lawful J a.lines a.each))
+        subst (λ (y : Plan). AllByRecursion (LawfulWrite J) y.writes) same
+        (subst (λ (ws : List Write). AllByRecursion (LawfulWrite J) ws) (sym a.writes) (lines_lawful J a.lines a.each))
       where
         ok_same : {x y : Plan} → ◌≡◌ {A = Result Plan CallFault} (Ok x) (Ok y) → x ≡ y
         ok_same e = cc

@@ -1,6 +1,6 @@
 -- Two memories that are alike in a closed view stay alike in it through any calls, and the calls answer alike. Assumes nothing.
 use Rattle.std.proofs.Common.{◌≡◌, ℕ, ◌<◌, ◌≤◌, Bool, true, false, ltb, ◌⊎◌, List, [], ◌∷◌, map, length, get_or, Some, None, Ok, Err, Result, sym, refl, ap, ◌∙◌, subst, inl, inr, arith}
-use Rattle.std.specs.List.{AllByRecursion as All}
+use Rattle.std.specs.List.{AllByRecursion}
 use Rattle.refusal.specs.Judging.{Judgement, accepted, ◌⨟◌, check, under}
 use Rattle.refusal.specs.declared.Side.{Side}
 use Rattle.refusal.proofs.Accepting.{check_accepted, both_accepted, under_accepted}
@@ -35,7 +35,7 @@ module _ {J : Joint} (F : Facts J) (V : View) (closed : Closed J V) where
   within v p sized h = omega (arith, sized p.side, (items F p.side).few)
 
   -- what is read for a target in the view is the same
-  reads_alike : (v w : Values) → Alike J V v w → (to : Place) → Sees J V to.side (item_at J to).label → (ps : List Place) → All (Readable J to) ps → map (held v) ps ≡ map (held w) ps
+  reads_alike : (v w : Values) → Alike J V v w → (to : Place) → Sees J V to.side (item_at J to).label → (ps : List Place) → AllByRecursion (Readable J to) ps → map (held v) ps ≡ map (held w) ps
   reads_alike v w alike to sees [] all = refl
   reads_alike v w alike to sees (p ∷ ps) all =
       let seen = reaches_from_view F V closed p.side (item_at J p).label to.side (item_at J to).label all.0.1 sees in
@@ -52,7 +52,7 @@ module _ {J : Joint} (F : Facts J) (V : View) (closed : Closed J V) where
         (twins.alike p known sees);
   }
 
-  pub writes_twins : (v w : Values) (xs : List Write) → All (LawfulWrite J) xs → Twins J V v w → Twins J V (all_written v xs) (all_written w xs)
+  pub writes_twins : (v w : Values) (xs : List Write) → AllByRecursion (LawfulWrite J) xs → Twins J V v w → Twins J V (all_written v xs) (all_written w xs)
   writes_twins v w [] all twins = twins
   writes_twins v w (x ∷ xs) all twins = writes_twins (written v x) (written w x) xs all.1 (write_twins v w x all.0 twins)
 

@@ -1,6 +1,6 @@
 -- A run leaves what its lines leave, and changes only what lies above its type. Assumes nothing.
 use Rattle.std.proofs.Common.{◌≡◌, ℕ, ◌<◌, Bool, true, false, ◌⊎◌, List, [], ◌∷◌, ◌++◌, map, length, get_or, replicate, Some, None, Ok, Err, Option, Result, sym, refl, ap, ◌∙◌, subst, ap₂, inl, inr, arith}
-use Rattle.std.specs.List.{flat_map, AllByRecursion as All}
+use Rattle.std.specs.List.{flat_map, AllByRecursion}
 use Rattle.std.proofs.ByRecursion.{All-append, All-from_get_or}
 use Rattle.bits.specs.Bits.{all_bits}
 use Rattle.format.specs.Formats.{read}
@@ -47,7 +47,7 @@ module _ (J : Joint) where
   abbrev Below : (Side → ℕ) → Step → Type 0
   Below T x = (s : Side) → Upper (dual (J.order s)) (given J s x) (T s)
 
-  targets_above : (T : Side → ℕ) (s : Side) (bs : List Assignment) → Upper (dual (J.order s)) (map (λ a. label_of (J.items s) a.target) bs) (T s) → All (λ w. Above J T w.target) (map (assignment_write s) bs)
+  targets_above : (T : Side → ℕ) (s : Side) (bs : List Assignment) → Upper (dual (J.order s)) (map (λ a. label_of (J.items s) a.target) bs) (T s) → AllByRecursion (λ w. Above J T w.target) (map (assignment_write s) bs)
   targets_above T s [] up = tt
   targets_above T s (b ∷ bs) up = (up.0, targets_above T s bs up.1)
 
@@ -55,7 +55,7 @@ module _ (J : Joint) where
   own_given T Near ls below = below Near
   own_given T Far ls below = below Far
 
-  step_above : (T : Side → ℕ) (x : Step) → Below T x → All (λ w. Above J T w.target) (step_writes x)
+  step_above : (T : Side → ℕ) (x : Step) → Below T x → AllByRecursion (λ w. Above J T w.target) (step_writes x)
   step_above T (compute s bs) below = targets_above T s bs (own_given T s (map (λ a. label_of (J.items s) a.target) bs) below)
   step_above T (fetch s t q) below = ((own_given T s (label_of (J.items s) t ∷ []) below).0, tt)
   step_above T (store s t q) below = ((own_given T s (label_of (J.items s) t ∷ []) below).0, tt)
@@ -65,7 +65,7 @@ module _ (J : Joint) where
     tt,
   )
 
-  steps_above : (T : Side → ℕ) (ls : List Line) → ((s : Side) → Upper (dual (J.order s)) (all_given J s (map line_step ls)) (T s)) → All (λ w. Above J T w.target) (flat_map (λ l. step_writes (line_step l)) ls)
+  steps_above : (T : Side → ℕ) (ls : List Line) → ((s : Side) → Upper (dual (J.order s)) (all_given J s (map line_step ls)) (T s)) → AllByRecursion (λ w. Above J T w.target) (flat_map (λ l. step_writes (line_step l)) ls)
   steps_above T [] below = tt
   steps_above T (l ∷ ls) below =
       let parts : (s : Side) → Upper (dual (J.order s)) (given J s (line_step l)) (T s) × Upper (dual (J.order s)) (all_given J s (map line_step ls)) (T s) =
@@ -74,7 +74,7 @@ module _ (J : Joint) where
       (step_above T (line_step l) (λ s. (parts s).0)) (steps_above T ls (λ s. (parts s).1))
 
   -- what writes change lies at one of their targets
-  changed_above : (T : Side → ℕ) (v : Values) (ws : List Write) → All (λ w. Above J T w.target) ws → (p : Place) → (held (all_written v ws) p ≡ held v p → ⊥) → Above J T p
+  changed_above : (T : Side → ℕ) (v : Values) (ws : List Write) → AllByRecursion (λ w. Above J T w.target) ws → (p : Place) → (held (all_written v ws) p ≡ held v p → ⊥) → Above J T p
   changed_above T v [] all p changed = absurd (changed refl)
   changed_above T v (w ∷ ws) all p changed =
       elim (written_or_kept w.target p) [
@@ -91,7 +91,7 @@ module _ (J : Joint) where
   abbrev line_calls : List Line → List Call
   line_calls ls = map (λ l. step (line_step l)) ls
 
-  lines_done : (ls : List Line) (v : Values) → All (λ l. step_judged J (line_step l) ≡ accepted) ls → (all_written v (flat_map (λ l. step_writes (line_step l)) ls) ≡ after_all J v (line_calls ls)) × (answers J v (line_calls ls) ≡ replicate (length ls) (Ok done))
+  lines_done : (ls : List Line) (v : Values) → AllByRecursion (λ l. step_judged J (line_step l) ≡ accepted) ls → (all_written v (flat_map (λ l. step_writes (line_step l)) ls) ≡ after_all J v (line_calls ls)) × (answers J v (line_calls ls) ≡ replicate (length ls) (Ok done))
   lines_done [] v all = (refl, refl)
   lines_done (l ∷ ls) v all =
       let one = step_done (line_step l) v all.0 in
@@ -109,11 +109,11 @@ module _ {J : Joint} (F : Facts J) where
   for_house_known Far Near ls k = tt
   for_house_known Far Far ls k = k
 
-  targets_known : (s : Side) (bs : List Assignment) → All (LawfulWrite J) (map (assignment_write s) bs) → Known (J.order s) (map (λ a. label_of (J.items s) a.target) bs)
+  targets_known : (s : Side) (bs : List Assignment) → AllByRecursion (LawfulWrite J) (map (assignment_write s) bs) → Known (J.order s) (map (λ a. label_of (J.items s) a.target) bs)
   targets_known s [] all = tt
   targets_known s (b ∷ bs) all = ((lawful F (place s b.target) all.0.known).label, targets_known s bs all.1)
 
-  given_known : (u : Side) (x : Step) → All (LawfulWrite J) (step_writes x) → Known (J.order u) (given J u x)
+  given_known : (u : Side) (x : Step) → AllByRecursion (LawfulWrite J) (step_writes x) → Known (J.order u) (given J u x)
   given_known u (compute s bs) all = for_house_known s u (map (λ a. label_of (J.items s) a.target) bs) (targets_known s bs all)
   given_known u (fetch s t q) all = for_house_known s u (label_of (J.items s) t ∷ []) ((lawful F (place s t) all.0.known).label, tt)
   given_known u (store s t q) all = for_house_known s u (label_of (J.items s) t ∷ []) ((lawful F (place s t) all.0.known).label, tt)
@@ -122,7 +122,7 @@ module _ {J : Joint} (F : Facts J) where
       (for_house_known s u (label_of (J.items s) q ∷ []) ((lawful F (place s q) all.0.reads.0.0).label, tt))
       (for_house_known (other s) u (label_of (J.items (other s)) t ∷ []) ((lawful F (place (other s) t) all.0.known).label, tt))
 
-  all_given_known : (u : Side) (ls : List Line) → All (λ l. step_judged J (line_step l) ≡ accepted) ls → Known (J.order u) (all_given J u (map line_step ls))
+  all_given_known : (u : Side) (ls : List Line) → AllByRecursion (λ l. step_judged J (line_step l) ≡ accepted) ls → Known (J.order u) (all_given J u (map line_step ls))
   all_given_known u [] all = tt
   all_given_known u (l ∷ ls) all =
       known_append (J.order u) (given J u (line_step l)) (all_given J u (map line_step ls))
@@ -139,7 +139,7 @@ module _ {J : Joint} (F : Facts J) where
       dual_known [] k = tt
       dual_known (l ∷ ls) k = (k.0, dual_known ls k.1)
 
-  type_greatest : (lines : List Line) (T : ScriptType) → All (λ l. step_judged J (line_step l) ≡ accepted) lines → script_type J (map line_step lines) ≡ T → (s : Side) → Supremum (dual (J.order s)) (all_given J s (map line_step lines)) (type_of T s)
+  type_greatest : (lines : List Line) (T : ScriptType) → AllByRecursion (λ l. step_judged J (line_step l) ≡ accepted) lines → script_type J (map line_step lines) ≡ T → (s : Side) → Supremum (dual (J.order s)) (all_given J s (map line_step lines)) (type_of T s)
   type_greatest lines T each same s =
       subst (λ (U : ScriptType). Supremum (dual (J.order s)) (all_given J s (map line_step lines)) (type_of U s)) same
       (go s (greatest s (all_given J s (map line_step lines)) (all_given_known s lines each)))
