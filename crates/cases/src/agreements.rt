@@ -557,7 +557,7 @@ fn listed_items(rt: HostRuntime) -> Result<(), Fail> {
         },
     ];
     let numbers = items_up_to(rt.alloc(), &near, 1, &items)?;
-    assert!(rt; numbers.as_slice() == &[0, 3]);
+    assert!(rt; numbers.as_slice() == [0, 3].as_slice());
     assert!(rt; items_up_to(rt.alloc(), &near, 3, &items)?.is_empty());
     Ok(())
 }
