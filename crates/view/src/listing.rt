@@ -1,9 +1,8 @@
 // The items in views, one to a line: house, item, role and label.
 use crate::words::usage;
-use agreement::{Item, Role, items_in_view};
-use order::Order;
+use agreement::{Item, Role};
 use refusal::Side;
-use sheet::Opened;
+use verdict::Opened;
 
 fn item_line(
     rt: &HostRuntime,
@@ -31,23 +30,13 @@ fn house_lines(
     label: u64,
     house: Side,
 ) -> anyhow::Result<bool> {
-    let agreement = opened.sheet.parts.agreement();
-    let Some(numbers) = items_in_view(
-        rt.alloc(),
-        &opened.near,
-        &opened.far,
-        &agreement,
-        side,
-        label,
-        house,
-    )?
+    let Some(numbers) = opened
+        .session
+        .items_in_view(rt.alloc(), side, label, house)?
     else {
         return Ok(false);
     };
-    let items = match house {
-        Side::Near => agreement.near_items,
-        Side::Far => agreement.far_items,
-    };
+    let items = opened.session.items(house);
     for number in numbers.iter() {
         if let Some(item) = items.get(*number as usize) {
             item_line(rt, before, house, *number, *item)?;
@@ -83,9 +72,9 @@ pub(crate) fn one_view(
 }
 
 // The views of all labels of one house.
-fn house_views(rt: &HostRuntime, opened: &Opened, side: Side, labels: u64) -> anyhow::Result<()> {
+fn house_views(rt: &HostRuntime, opened: &Opened, side: Side) -> anyhow::Result<()> {
     let house = side.word();
-    for label in 0..labels {
+    for label in 0..opened.session.labels(side) {
         let before = format!(in rt.alloc(); "{house} label {label}: ")?;
         let _known = view_lines(rt, before.as_str(), opened, side, label)?;
     }
@@ -93,6 +82,6 @@ fn house_views(rt: &HostRuntime, opened: &Opened, side: Side, labels: u64) -> an
 }
 
 pub(crate) fn every_view(rt: &HostRuntime, opened: &Opened) -> anyhow::Result<()> {
-    house_views(rt, opened, Side::Near, opened.near.count())?;
-    house_views(rt, opened, Side::Far, opened.far.count())
+    house_views(rt, opened, Side::Near)?;
+    house_views(rt, opened, Side::Far)
 }

@@ -7,7 +7,7 @@ mod words;
 
 use input::read_bounded;
 use listing::{every_view, one_view};
-use sheet::{Opened, open_sheet};
+use verdict::{Opened, open_sheet};
 use words::{Question, asked_question};
 
 fn answer(rt: &HostRuntime, asked: Question, opened: &Opened) -> anyhow::Result<()> {
@@ -23,7 +23,7 @@ fn run(rt: &HostRuntime) -> anyhow::Result<()> {
     match open_sheet(bytes.as_slice()) {
         Ok(opened) => answer(rt, asked, &opened),
         Err(fault) => {
-            rt.println(fault.verdict())?;
+            rt.println(fault.refused())?;
             Ok(())
         }
     }
