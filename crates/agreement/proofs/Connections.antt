@@ -1,11 +1,10 @@
 -- What the rules say where both maps are total, and what follows of a Lagois connection. Assumes nothing.
-use Rattle.std.proofs.Common.{◌≡◌, ℕ, ◌<◌, ◌≤◌, Bool, true, false, cond, not, ◌&&◌, ◌||◌, eqb, ltb, List, length, get_or, Some, None, Decides, Option, sym, refl, ap, ◌∙◌, subst, arith}
-use Rattle.std.proofs.lemmas.Bool.{lt-ltb, ltb-true, and_parts, eqb-true, eq-eqb, and_from, cond-true, cases_Bool, both_ways}
-use Rattle.std.proofs.lemmas.Bool.Decides.{same_from_decides}
+use Rattle.std.proofs.Common.{◌≡◌, ℕ, ◌<◌, Bool, true, false, cond, not, ◌&&◌, ◌||◌, eqb, ltb, List, length, Some, None, Option, refl, ap, ◌∙◌, arith}
+use Rattle.std.proofs.lemmas.Bool.{lt-ltb, ltb-true, and_parts, eqb-true, and_from, cond-true, both_ways}
 use Rattle.order.specs.Orders.{PartialOrder}
 use Rattle.agreement.specs.Maps.{at, image_of, and_then, round_of, related, is_settled}
-use Rattle.agreement.specs.Rules.{keeps, rises, stays, lawful_item}
-use Rattle.agreement.specs.Connection.{Total, Lagois, Settled}
+use Rattle.agreement.specs.Rules.{keeps, rises, stays}
+use Rattle.agreement.specs.Connection.{Total, Settled}
 
 pub image_total : (P Q : PartialOrder) (m : List ℕ) → Total P Q m → (a : ℕ) → a < P.count → image_of P Q m a ≡ Some (at m a)
 image_total P Q m t a h =

@@ -1,6 +1,5 @@
 -- An agreement by its sides: the order of each house, its map to the other house, and its items.
 use Rattle.std.specs.Prelude.{ℕ, List}
-use Rattle.refusal.specs.Sides.{other}
 use Rattle.refusal.specs.declared.Side.{Side}
 use Rattle.refusal.specs.declared.Side.TheVariants.{Near, Far}
 use Rattle.order.specs.Orders.{PartialOrder}

@@ -1,7 +1,6 @@
 -- What each fault of an agreement is refused with: number, side, p and q.
 use Rattle.std.specs.Prelude.{ℕ, Some, None}
 use Rattle.refusal.specs.declared.Refusal.{Refusal}
-use Rattle.refusal.specs.declared.Side.{Side}
 use Rattle.agreement.specs.declared.fault.Broken.{Broken}
 use Rattle.agreement.specs.declared.fault.Broken.TheVariants.{Length, Entry, NotMonotone, Falls, Drifts, TooMany, Unlawful}
 use Rattle.agreement.specs.declared.fault.Fault.{Fault}

@@ -1,5 +1,5 @@
 -- Maps between the labels of two orders, as lists of images, and going across and back.
-use Rattle.std.specs.Prelude.{◌≡◌, ℕ, ◌<◌, Bool, true, false, cond, ◌&&◌, List, length, Some, None, Option, nat_eq, nat_lt, slice_index}
+use Rattle.std.specs.Prelude.{ℕ, Bool, false, cond, ◌&&◌, List, length, Some, None, Option, nat_eq, nat_lt, slice_index}
 use Rattle.order.specs.Orders.{PartialOrder}
 
 -- what a list of images has at a label

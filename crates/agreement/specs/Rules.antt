@@ -1,5 +1,5 @@
 -- The rules on one map, on a map and the map back, and on items, each as a judgement that names its smallest broken case.
-use Rattle.std.specs.Prelude.{ℕ, Bool, true, false, cond, not, ◌&&◌, ◌||◌, List, length, get_or, Some, ◌==◌, nat_eq, nat_le, nat_lt, slice_index_or}
+use Rattle.std.specs.Prelude.{ℕ, Bool, cond, not, ◌&&◌, ◌||◌, List, length, get_or, Some, ◌==◌, nat_eq, nat_le, nat_lt, slice_index_or}
 use Rattle.refusal.specs.Judging.{Judgement, ◌⨟◌, check, each_from}
 use Rattle.order.specs.Orders.{PartialOrder}
 use Rattle.agreement.specs.Maps.{at, image_of, and_then, round_of, related, is_settled}

@@ -1,5 +1,5 @@
 -- The writes of an accepted call are lawful: each into a known item, of known items that may come to be there. Assumes nothing.
-use Rattle.std.proofs.Common.{◌≡◌, ℕ, zero, suc, ◌<◌, Bool, true, false, ◌&&◌, eqb, ltb, leb, List, [], ◌∷◌, ◌++◌, map, length, get_or, Some, None, Ok, Err, Option, Result, sym, refl, ap, ◌∙◌, subst, arith}
+use Rattle.std.proofs.Common.{◌≡◌, ℕ, suc, ◌<◌, true, ◌&&◌, ltb, List, [], ◌∷◌, map, length, get_or, Some, None, Ok, Err, Option, Result, sym, refl, ap, subst, arith}
 use Rattle.std.specs.List.{flat_map, AllByRecursion}
 use Rattle.std.proofs.ByRecursion.{All-from_get_or, All-map, All-append}
 use Rattle.std.proofs.lemmas.Bool.{ltb-true, and_parts}
@@ -9,7 +9,6 @@ use Rattle.refusal.specs.Judging.{Judgement, accepted, ◌⨟◌, check, under}
 use Rattle.refusal.specs.Sides.{other}
 use Rattle.refusal.specs.declared.Side.{Side}
 use Rattle.refusal.proofs.Accepting.{check_accepted, both_accepted, under_accepted, below_accepted}
-use Rattle.order.specs.Orders.{PartialOrder}
 use Rattle.agreement.specs.Agreements.{Joint}
 use Rattle.agreement.specs.Maps.{moves}
 use Rattle.agreement.specs.Rules.{no_item}
@@ -23,14 +22,13 @@ use Rattle.script.specs.declared.line.Assignment.{Assignment}
 use Rattle.script.specs.declared.line.Line.{Line}
 use Rattle.machine.specs.Operations.{operands}
 use Rattle.machine.specs.Places.{Place, place, Write}
-use Rattle.machine.specs.Steps.{Step, compute, fetch, store, move, label_of, serves, item_judged, all_working, all_flow, form_judged, roles_judged, assignment_roles, flows_judged, target_judged, pair_judged, compute_judged, copy_judged, move_judged, step_judged, show_judged, assignment_write, copy_write, step_writes}
+use Rattle.machine.specs.Steps.{Step, compute, fetch, store, move, label_of, serves, item_judged, all_working, all_flow, form_judged, roles_judged, assignment_roles, flows_judged, target_judged, pair_judged, compute_judged, copy_judged, step_judged, show_judged, assignment_write, copy_write, step_writes}
 use Rattle.machine.specs.Types.{script_type}
 use Rattle.machine.specs.Calls.{Call, step, run, show, Plan, plan, run_plan, done, typed, fixed, value_at, line_step, at_line, lines_judged, if_accepted, typed_lines, script_judged, line_writes, script_writes}
 use Rattle.machine.specs.Secrets.{item_at, KnownItem}
 use Rattle.machine.specs.declared.fault.CallFault.{CallFault}
-use Rattle.machine.specs.declared.fault.CallFault.TheVariants.{Step as in_step, Script as in_script}
+use Rattle.machine.specs.declared.fault.CallFault.TheVariants.{Step as in_step}
 use Rattle.machine.specs.declared.fault.RunFault.{RunFault}
-use Rattle.machine.specs.declared.fault.StepFault.{StepFault}
 use Rattle.machine.specs.declared.fault.StepFault.TheVariants.{Unsuitable, NotAllowed}
 use Rattle.machine.specs.declared.script_type.ScriptType.{ScriptType}
 use Rattle.machine.proofs.Views.{reaches, reaches_inside, reaches_across}

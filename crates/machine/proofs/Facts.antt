@@ -1,13 +1,11 @@
 -- What is known of a certified agreement, said of a side. Assumes nothing.
-use Rattle.std.proofs.Common.{◌≡◌, ℕ, ◌<◌, ◌≤◌, length, get_or}
 use Rattle.refusal.specs.Sides.{other}
 use Rattle.refusal.specs.declared.Side.{Side}
 use Rattle.refusal.specs.declared.Side.TheVariants.{Near, Far}
 use Rattle.order.specs.Bounds.{IsLattice}
 use Rattle.agreement.specs.Agreements.{Joint}
 use Rattle.agreement.specs.Certified.{Holds}
-use Rattle.agreement.specs.Connection.{Total, Monotone, Rising, Stable, Lawful, LawfulItems, Settled}
-use Rattle.agreement.specs.Rules.{no_item}
+use Rattle.agreement.specs.Connection.{Total, Monotone, Rising, Stable, Lawful, LawfulItems}
 use Rattle.machine.specs.Places.{Place}
 use Rattle.machine.specs.Secrets.{item_at, KnownItem}
 

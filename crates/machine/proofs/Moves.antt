@@ -1,5 +1,5 @@
 -- A move is refused exactly where its copy would leak. Assumes nothing.
-use Rattle.std.proofs.Common.{◌≡◌, ℕ, ◌^◌, ◌<◌, Bool, true, false, ◌&&◌, eqb, ltb, ◌⊎◌, List, length, get_or, Some, None, Ok, Err, Option, sym, refl, ap, ◌∙◌, subst, inl, inr, arith, lit<}
+use Rattle.std.proofs.Common.{◌≡◌, ℕ, ◌^◌, ◌<◌, Bool, true, false, ltb, length, get_or, Some, None, Err, sym, refl, ap, ◌∙◌, subst, inl, inr, arith, lit<}
 use Rattle.std.proofs.lemmas.Bool.{lt-ltb, eq-eqb, and_from, both_ways}
 use Rattle.refusal.specs.Judging.{Judgement, accepted, ◌⨟◌, check, under}
 use Rattle.refusal.specs.Sides.{other}
@@ -7,28 +7,25 @@ use Rattle.refusal.specs.declared.Side.{Side}
 use Rattle.refusal.specs.declared.Side.TheVariants.{Near, Far}
 use Rattle.refusal.proofs.Judging.{check_at, then_at}
 use Rattle.agreement.specs.Agreements.{Joint}
-use Rattle.agreement.specs.Connection.{Settled}
 use Rattle.agreement.specs.Maps.{at, moves}
 use Rattle.agreement.specs.Roles.{role_number}
 use Rattle.agreement.specs.Rules.{no_item}
 use Rattle.agreement.specs.Views.{view_at, highest_in, view_in}
-use Rattle.agreement.specs.declared.item.Item.{Item}
 use Rattle.agreement.specs.declared.item.Role.{Role}
 use Rattle.agreement.specs.declared.item.Role.TheVariants.{Import, Export}
 use Rattle.agreement.specs.declared.views.View.{View}
-use Rattle.machine.specs.Places.{Place, place, values_in, held, put, written}
+use Rattle.machine.specs.Places.{Place, place, held, written}
 use Rattle.machine.specs.Steps.{move, serves, item_judged, label_of, copy_write, step_judged, step_writes}
 use Rattle.machine.specs.Calls.{step, done, fixed, if_accepted, answered, answer, Answer}
 use Rattle.machine.specs.Openings.{Opening, start}
-use Rattle.machine.specs.Secrets.{item_at, KnownItem, HasRole, Sees, Alike, Observer, Leak, RefusedOnlyWhereItWouldLeak}
-use Rattle.machine.specs.declared.fault.CallFault.{CallFault}
+use Rattle.machine.specs.Secrets.{item_at, HasRole, Sees, Leak, RefusedOnlyWhereItWouldLeak}
 use Rattle.machine.specs.declared.fault.CallFault.TheVariants.{Step as in_step}
 use Rattle.machine.specs.declared.fault.StepFault.{StepFault}
 use Rattle.machine.specs.declared.fault.StepFault.TheVariants.{Unsuitable, NotAllowed}
 use Rattle.machine.specs.declared.values.Values.{Values}
-use Rattle.machine.proofs.Facts.{Facts, total, total_back, monotone, items, lawful}
+use Rattle.machine.proofs.Facts.{Facts, total, monotone, items, lawful}
 use Rattle.machine.proofs.Places.{held_put}
-use Rattle.machine.proofs.Views.{Closed, moves_from, view_is, view_closed}
+use Rattle.machine.proofs.Views.{moves_from, view_is, view_closed}
 use Rattle.machine.proofs.Accepted.{across_lawful}
 use Rattle.machine.proofs.Runs.{Twins, writes_twins}
 use Rattle.machine.proofs.Openings.{start_sized, probe, probe_there, probe_elsewhere}

@@ -1,20 +1,19 @@
 -- What openings hold, and the openings that differ in one place. Assumes nothing.
-use Rattle.std.proofs.Common.{◌≡◌, ℕ, ◌-◌, ◌^◌, ◌<◌, ◌≤◌, eqb, ◌⊎◌, List, ◌++◌, length, get_or, set, replicate, sym, refl, ap, ◌∙◌, inl, inr, arith, lit<}
+use Rattle.std.proofs.Common.{◌≡◌, ℕ, ◌-◌, ◌^◌, ◌<◌, eqb, ◌⊎◌, List, length, get_or, set, replicate, sym, refl, ap, ◌∙◌, inl, inr, arith}
 use Rattle.std.proofs.lemmas.List.{get_or_append_left, length-set, length-replicate, get_or-set_same, get_or-set_other, get_or-replicate, get_or_past}
 use Rattle.std.proofs.lemmas.Bool.{eqb-true, eq-eqb, cases_eq, cases_lt}
 use Rattle.format.specs.Formats.{padded}
 use Rattle.format.proofs.Loops.{length_padded}
-use Rattle.refusal.specs.Judging.{accepted, ◌⨟◌, check}
+use Rattle.refusal.specs.Judging.{accepted}
 use Rattle.refusal.specs.declared.Side.{Side}
 use Rattle.refusal.specs.declared.Side.TheVariants.{Near, Far}
 use Rattle.refusal.proofs.Accepting.{check_accepted, both_accepted}
 use Rattle.refusal.proofs.Judging.{check_at, then_at}
 use Rattle.agreement.specs.Agreements.{Joint}
-use Rattle.machine.specs.Places.{Place, place, values_in, held}
-use Rattle.machine.specs.Openings.{length_judged, opening_judged, opened, Opening, start}
+use Rattle.machine.specs.Places.{Place, place, held}
+use Rattle.machine.specs.Openings.{length_judged, opening_judged, Opening, start}
 use Rattle.machine.specs.Secrets.{KnownItem}
 use Rattle.machine.specs.declared.fault.CallFault.TheVariants.{Values as wrong_length}
-use Rattle.machine.specs.declared.values.Values.{Values}
 use Rattle.machine.proofs.Facts.{Facts, items}
 use Rattle.machine.proofs.Places.{Sized}
 

@@ -1,15 +1,15 @@
 -- Two memories that are alike in a closed view stay alike in it through any calls, and the calls answer alike. Assumes nothing.
-use Rattle.std.proofs.Common.{◌≡◌, ℕ, ◌<◌, ◌≤◌, Bool, true, false, ltb, ◌⊎◌, List, [], ◌∷◌, map, length, get_or, Some, None, Ok, Err, Result, sym, refl, ap, ◌∙◌, subst, inl, inr, arith}
+use Rattle.std.proofs.Common.{◌≡◌, ℕ, ◌<◌, ltb, List, [], ◌∷◌, map, length, Some, None, Ok, Err, Result, sym, refl, ap, ◌∙◌, subst, inl, inr, arith}
 use Rattle.std.specs.List.{AllByRecursion}
 use Rattle.refusal.specs.Judging.{Judgement, accepted, ◌⨟◌, check, under}
 use Rattle.refusal.specs.declared.Side.{Side}
-use Rattle.refusal.proofs.Accepting.{check_accepted, both_accepted, under_accepted}
+use Rattle.refusal.proofs.Accepting.{check_accepted, both_accepted}
 use Rattle.agreement.specs.Agreements.{Joint}
 use Rattle.agreement.specs.Views.{highest_in}
 use Rattle.agreement.specs.declared.views.View.{View}
-use Rattle.machine.specs.Places.{Place, place, values_in, held, put, Write, written, all_written}
-use Rattle.machine.specs.Steps.{Step, label_of, item_judged, show_judged, step_judged, step_writes}
-use Rattle.machine.specs.Calls.{Call, step, run, show, done, typed, shown, fixed, value_at, Plan, plan, run_plan, if_accepted, Answer, answered, done_by, answer, after, answers, after_all, script_judged, script_writes}
+use Rattle.machine.specs.Places.{Place, place, values_in, held, Write, written, all_written}
+use Rattle.machine.specs.Steps.{label_of, item_judged, show_judged, step_judged, step_writes}
+use Rattle.machine.specs.Calls.{Call, step, run, show, done, shown, fixed, value_at, Plan, plan, run_plan, if_accepted, answered, done_by, answer, after, answers, after_all, script_judged, script_writes}
 use Rattle.machine.specs.Secrets.{item_at, KnownItem, Sees, Alike, Agree, AllAgree}
 use Rattle.machine.specs.declared.fault.CallFault.{CallFault}
 use Rattle.machine.specs.declared.fault.CallFault.TheVariants.{Step as in_step}

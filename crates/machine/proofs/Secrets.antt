@@ -1,6 +1,4 @@
 -- What is certified keeps secrets. Assumes nothing.
-use Rattle.std.proofs.Common.{◌≡◌}
-use Rattle.refusal.specs.declared.Side.{Side}
 use Rattle.agreement.specs.Agreements.{Joint}
 use Rattle.machine.specs.Openings.{start}
 use Rattle.machine.specs.Secrets.{NoInterference, KeepsSecrets}

@@ -1,34 +1,32 @@
 -- A run leaves what its lines leave, and changes only what lies above its type. Assumes nothing.
-use Rattle.std.proofs.Common.{◌≡◌, ℕ, ◌<◌, Bool, true, false, ◌⊎◌, List, [], ◌∷◌, ◌++◌, map, length, get_or, replicate, Some, None, Ok, Err, Option, Result, sym, refl, ap, ◌∙◌, subst, ap₂, inl, inr, arith}
+use Rattle.std.proofs.Common.{◌≡◌, ℕ, true, List, [], ◌∷◌, ◌++◌, map, length, replicate, Ok, Err, Option, Result, sym, refl, ap, ◌∙◌, subst, ap₂, inl, inr, arith}
 use Rattle.std.specs.List.{flat_map, AllByRecursion}
-use Rattle.std.proofs.ByRecursion.{All-append, All-from_get_or}
+use Rattle.std.proofs.ByRecursion.{All-append}
 use Rattle.bits.specs.Bits.{all_bits}
 use Rattle.format.specs.Formats.{read}
 use Rattle.script.specs.Scripts.{script}
-use Rattle.refusal.specs.Judging.{Judgement, accepted, ◌⨟◌, check, under}
+use Rattle.refusal.specs.Judging.{accepted, under}
 use Rattle.refusal.specs.Sides.{other}
 use Rattle.refusal.specs.declared.Side.{Side}
 use Rattle.refusal.specs.declared.Side.TheVariants.{Near, Far}
 use Rattle.order.specs.Orders.{PartialOrder, dual}
 use Rattle.order.specs.Bounds.{Known, Upper, Supremum}
-use Rattle.order.specs.Search.{supremum_of}
 use Rattle.order.proofs.Searches.{finds_supremum, found_supremum}
 use Rattle.agreement.specs.Agreements.{Joint}
 use Rattle.script.specs.declared.line.Assignment.{Assignment}
 use Rattle.script.specs.declared.line.Line.{Line}
-use Rattle.machine.specs.Places.{Place, place, held, put, Write, written, all_written}
-use Rattle.machine.specs.Steps.{Step, compute, fetch, store, move, label_of, assignment_write, copy_write, step_judged, step_writes}
+use Rattle.machine.specs.Places.{Place, place, held, Write, written, all_written}
+use Rattle.machine.specs.Steps.{Step, compute, fetch, store, move, label_of, assignment_write, step_judged, step_writes}
 use Rattle.machine.specs.Types.{for_house, given, all_given, lowest, or_top, type_in, script_type, type_of}
-use Rattle.machine.specs.Calls.{Call, step, run, done, typed, fixed, Plan, plan, run_plan, if_accepted, Answer, answered, done_by, answer, after, answers, after_all, line_step, script_judged, script_writes}
-use Rattle.machine.specs.Secrets.{item_at, KnownItem, RunsAsItsLines, ARunIsItsLines}
-use Rattle.machine.specs.declared.fault.CallFault.{CallFault}
+use Rattle.machine.specs.Calls.{Call, step, run, done, typed, fixed, run_plan, if_accepted, Answer, answered, done_by, answer, after, answers, after_all, line_step, script_judged, script_writes}
+use Rattle.machine.specs.Secrets.{item_at, RunsAsItsLines, ARunIsItsLines}
 use Rattle.machine.specs.declared.fault.CallFault.TheVariants.{Step as in_step}
 use Rattle.machine.specs.declared.fault.RunFault.{RunFault}
 use Rattle.machine.specs.declared.script_type.ScriptType.{ScriptType}
 use Rattle.machine.specs.declared.values.Values.{Values}
-use Rattle.machine.proofs.Facts.{Facts, items, lawful}
+use Rattle.machine.proofs.Facts.{Facts, lawful}
 use Rattle.machine.proofs.Places.{written_or_kept, all_written_append}
-use Rattle.machine.proofs.Accepted.{LawfulWrite, step_lawful, ScriptAccepted, script_accepted}
+use Rattle.machine.proofs.Accepted.{LawfulWrite, step_lawful, script_accepted}
 
 -- the label of a house's type flows to the label of the place
 abbrev Above : Joint → (Side → ℕ) → Place → Type 0

@@ -17,7 +17,6 @@ use Rattle.machine.specs.Steps.{Step, compute, fetch, store, outward, inward, st
 use Rattle.machine.specs.Types.{script_type}
 use Rattle.machine.specs.declared.fault.CallFault.{CallFault}
 use Rattle.machine.specs.declared.fault.CallFault.TheVariants.{WrongStage, Step as in_step, Script as in_script}
-use Rattle.machine.specs.declared.fault.LineFault.{LineFault}
 use Rattle.machine.specs.declared.fault.RunFault.{RunFault}
 use Rattle.machine.specs.declared.fault.RunFault.TheVariants.{Unreadable, Line as in_line}
 use Rattle.machine.specs.declared.fault.StepFault.{StepFault}

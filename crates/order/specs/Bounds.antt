@@ -1,5 +1,5 @@
 -- Upper labels, least upper labels, and what makes an order a lattice. A greatest lower label is a least upper one of the dual order.
-use Rattle.std.specs.Prelude.{◌≡◌, ℕ, ◌<◌, Bool, true, List, [], ◌∷◌, Option, MatchOption}
+use Rattle.std.specs.Prelude.{◌≡◌, ℕ, ◌<◌, true, List, [], ◌∷◌, Option, MatchOption}
 use Rattle.order.specs.Orders.{PartialOrder, dual}
 use Rattle.order.specs.declared.bound.Bound.{Bound}
 use Rattle.order.specs.declared.bound.Bound.TheVariants.{Join, Meet}

@@ -1,7 +1,7 @@
 -- Going through a script without keeping its lines. Assumes nothing.
-use Rattle.std.proofs.Common.{◌≡◌, ℕ, suc, ◌+◌, ◌-◌, Bool, List, length, Ok, Err, Result, sym, refl, ap, ◌∙◌, subst, arith}
+use Rattle.std.proofs.Common.{◌≡◌, ℕ, suc, ◌+◌, ◌-◌, Bool, List, length, Ok, Err, sym, ap, ◌∙◌, arith}
 use Rattle.bits.specs.Bits.{piece}
-use Rattle.format.specs.Formats.{Reading, followed, inside, many, field, read, write, Writes}
+use Rattle.format.specs.Formats.{Reading, followed, inside, many, field, read, write}
 use Rattle.format.proofs.Loops.{ends_at}
 use Rattle.format.proofs.Laws.{was_written, read_back}
 use Rattle.script.specs.Scripts.{line, on_line, script, OnlyTheseBits}

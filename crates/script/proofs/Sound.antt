@@ -7,7 +7,6 @@ use Rattle.script.specs.Lines.{batch, blank, kind_of, compute, copy, target_of, 
 use Rattle.script.specs.Scripts.{assignment, assignments, line, script}
 use Rattle.script.specs.declared.line.Assignment.{Assignment}
 use Rattle.script.specs.declared.line.Batch.{Batch}
-use Rattle.script.specs.declared.line.Line.{Line}
 
 -- what follows either way
 when_both : (b : Bool) (P Q R : Type 0) → MatchBool b P Q → (b ≡ true → P → R) → (b ≡ false → Q → R) → R

@@ -1,7 +1,6 @@
 -- Lines by their kinds, and the assignments of a compute.
 use Rattle.std.specs.Prelude.{ℕ, cond, List, [], take, ◌==◌}
 use Rattle.format.specs.Formats.{padded}
-use Rattle.refusal.specs.declared.Side.{Side}
 use Rattle.refusal.specs.declared.Side.TheVariants.{Near, Far}
 use Rattle.script.specs.declared.line.Assignment.{Assignment}
 use Rattle.script.specs.declared.line.Batch.{Batch}

@@ -3,7 +3,7 @@ use Rattle.std.proofs.Common.{◌≡◌, ℕ, List, [], Ok, Err, Result, sym, re
 use Rattle.refusal.specs.Judging.{Judgement, accepted, under}
 use Rattle.refusal.specs.declared.Side.{Side}
 use Rattle.agreement.specs.Agreements.{Joint}
-use Rattle.machine.specs.Calls.{Answer, Call, after, after_at, answer, answer_at, answered, as_done, as_shown, as_typed, done, fixed, gated, if_accepted, if_so, run, run_plan, script_judged, script_writes, show, stage_judged, step, value_at}
+use Rattle.machine.specs.Calls.{Call, after, after_at, answer, answer_at, answered, as_done, as_shown, as_typed, done, fixed, gated, if_accepted, if_so, run, run_plan, script_judged, script_writes, show, stage_judged, step, value_at}
 use Rattle.machine.specs.Places.{held, place}
 use Rattle.machine.specs.Steps.{Step, show_judged, step_judged, step_writes}
 use Rattle.machine.specs.declared.fault.CallFault.{CallFault}

@@ -1,12 +1,12 @@
 -- What the record keeps of an agreement is the agreement. Assumes nothing.
-use Rattle.std.proofs.Common.{◌≡◌, ℕ, ◌≤◌, List, length, sym, refl, ap, ◌∙◌, arith}
+use Rattle.std.proofs.Common.{◌≡◌, ◌≤◌, length, arith}
 use Rattle.std.proofs.lemmas.List.{length-take}
 use Rattle.format.proofs.Loops.{take_padded}
 use Rattle.refusal.specs.declared.Side.{Side}
 use Rattle.refusal.specs.declared.Side.TheVariants.{Near, Far}
 use Rattle.order.specs.Bounds.{IsLattice}
 use Rattle.order.specs.Orders.{PartialOrder}
-use Rattle.agreement.specs.Agreements.{Joint, joint, agreed, by_side}
+use Rattle.agreement.specs.Agreements.{joint, agreed, by_side}
 use Rattle.agreement.specs.Certified.{Holds}
 use Rattle.agreement.specs.Rules.{no_item}
 use Rattle.agreement.specs.declared.certification.Agreement.{Agreement}

@@ -1,9 +1,9 @@
 -- The record of a session: what it holds of an agreement, and what everyone knows of it.
-use Rattle.std.specs.Prelude.{◌≡◌, ℕ, List, [], length, take, replicate}
+use Rattle.std.specs.Prelude.{ℕ, List, [], length, take, replicate}
 use Rattle.format.specs.Formats.{padded}
 use Rattle.refusal.specs.Judging.{Judgement, ◌⨟◌, under}
 use Rattle.order.specs.Orders.{PartialOrder}
-use Rattle.agreement.specs.Agreements.{Joint, joint, agreed}
+use Rattle.agreement.specs.Agreements.{Joint, joint}
 use Rattle.agreement.specs.Certified.{certified}
 use Rattle.agreement.specs.Rules.{no_item}
 use Rattle.agreement.specs.declared.certification.Agreement.{Agreement}
@@ -13,7 +13,7 @@ use Rattle.machine.specs.Openings.{opening_judged}
 use Rattle.machine.specs.declared.fault.CallFault.{CallFault}
 use Rattle.machine.specs.declared.fault.CallFault.TheVariants.{Agreement as in_agreement}
 use Rattle.machine.specs.declared.stage.Stage.{Stage}
-use Rattle.machine.specs.declared.stage.Stage.TheVariants.{Draft, Certified, Open}
+use Rattle.machine.specs.declared.stage.Stage.TheVariants.{Draft, Certified}
 use Rattle.machine.specs.declared.values.Values.{Values}
 use Rattle.session.specs.declared.record.Entries.{Entries}
 use Rattle.session.specs.declared.record.HouseItems.{HouseItems}

@@ -1,13 +1,11 @@
 -- Two sheets that are the writing of the same parts and lines are the same bytes. Assumes nothing.
-use Rattle.std.proofs.Common.{◌≡◌, ℕ, zero, suc, ◌+◌, ◌*◌, ◌^◌, ◌<◌, Bool, false, List, [], ◌∷◌, ◌++◌, length, get_or, take, drop, replicate, sym, refl, ap, ◌∙◌, ap₂, arith}
+use Rattle.std.proofs.Common.{◌≡◌, ℕ, suc, Bool, false, List, [], ◌∷◌, ◌++◌, length, take, drop, replicate, sym, refl, ap, ◌∙◌, ap₂, arith}
 use Rattle.std.proofs.lemmas.List.{take_at, drop_at, length-append, length-replicate}
 use Rattle.format.specs.Formats.{write}
-use Rattle.script.specs.declared.line.Line.{Line}
 use Rattle.bits.specs.Bits.{bits_of, all_bits}
 use Rattle.bits.proofs.Bits.{length_bits_of, length_all_bits, number_bits_of_below}
 use Rattle.sheet.specs.Sheets.{sheet}
-use Rattle.sheet.specs.Reading.{SheetOf, AreBytes, Alone}
-use Rattle.sheet.specs.declared.parts.Parts.{Parts}
+use Rattle.sheet.specs.Reading.{AreBytes, Alone}
 use Rattle.bits.specs.Bits.{number}
 
 -- bytes with the same bits are the same

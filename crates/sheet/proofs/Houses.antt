@@ -2,7 +2,6 @@
 use Rattle.std.proofs.Common.{◌≡◌, ℕ, ◌+◌, Bool, List, Ok, sym, ap, ◌∙◌}
 use Rattle.format.specs.Formats.{Reading, followed, field, many, turned, read, padded}
 use Rattle.format.specs.declared.fault.FieldFault.{FieldFault}
-use Rattle.house.specs.declared.description.House.{House}
 use Rattle.house.specs.declared.description.House.TheVariants.{Listed}
 use Rattle.sheet.specs.Parts.{listed_house}
 use Rattle.sheet.specs.Sheets.{listed}

@@ -1,12 +1,11 @@
 -- A sheet is read without a fault exactly if it is the writing of what is read. Assumes nothing.
-use Rattle.std.proofs.Common.{◌≡◌, ℕ, zero, suc, ◌+◌, ◌-◌, ◌*◌, ◌^◌, ◌<◌, ◌≤◌, Bool, true, false, cond, ◌&&◌, eqb, ltb, leb, List, [], ◌∷◌, ◌++◌, length, take, drop, replicate, Ok, Err, Result, sym, refl, ap, ◌∙◌, subst, ap₂, zero-add, arith, pow_pos}
-use Rattle.std.proofs.lemmas.List.{take-append-drop, drop_at, take_at, length-append, length-replicate, length-drop}
-use Rattle.std.proofs.lemmas.Bool.{and_parts, and_from, ltb-true, lt-ltb, eqb-true, eq-eqb, leb-true, le-leb, lt-leb, cond-true, both_ways}
-use Rattle.bits.specs.Bits.{all_bits, number, bit}
-use Rattle.format.specs.Formats.{Format, Reading, followed, under, inside, read, write, Writes}
+use Rattle.std.proofs.Common.{◌≡◌, ℕ, zero, suc, ◌+◌, ◌-◌, ◌<◌, ◌≤◌, Bool, true, false, cond, eqb, ltb, leb, List, [], ◌∷◌, ◌++◌, length, take, drop, replicate, Ok, Err, Result, sym, refl, ap, ◌∙◌, ap₂, zero-add, arith, pow_pos}
+use Rattle.std.proofs.lemmas.List.{take-append-drop, drop_at, take_at, length-replicate, length-drop}
+use Rattle.std.proofs.lemmas.Bool.{and_parts, and_from, ltb-true, lt-ltb, eqb-true, eq-eqb, leb-true, le-leb, lt-leb, cond-true}
+use Rattle.bits.specs.Bits.{all_bits, number}
+use Rattle.format.specs.Formats.{Format, Reading, followed, under, inside, read, write}
 use Rattle.format.specs.declared.fault.FieldFault.{FieldFault}
 use Rattle.script.specs.declared.fault.ScriptFault.{ScriptFault}
-use Rattle.format.proofs.Pieces.{Stands}
 use Rattle.format.proofs.Laws.{was_written, read_back}
 use Rattle.script.specs.Scripts.{script}
 use Rattle.script.specs.declared.line.Line.{Line}

@@ -11,7 +11,6 @@ use Rattle.sheet.specs.Parts.{meant_rows, meant_entries, meant_items, kind_of, r
 use Rattle.house.specs.Houses.{labels}
 use Rattle.sheet.specs.Sheets.{listed, graded, house, entries, item, items, front, sheet}
 use Rattle.house.specs.declared.description.House.{House}
-use Rattle.sheet.specs.declared.parts.Entries.{Entries}
 use Rattle.sheet.specs.declared.parts.Items.{Items}
 use Rattle.sheet.specs.declared.parts.Parts.{Parts}
 

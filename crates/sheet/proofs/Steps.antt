@@ -1,5 +1,5 @@
 -- The steps of opening a sheet. Assumes nothing.
-use Rattle.std.proofs.Common.{◌≡◌, ℕ, List, IsErrAnd, Ok, Err, Result, sym, ap, ◌∙◌, subst, inl, inr}
+use Rattle.std.proofs.Common.{◌≡◌, ℕ, List, IsErrAnd, Result, sym, subst}
 use Rattle.refusal.proofs.Judging.{break_is}
 use Rattle.order.specs.Orders.{PartialOrder}
 use Rattle.agreement.specs.Agreements.{agreed, joint}

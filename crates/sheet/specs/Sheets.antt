@@ -1,5 +1,5 @@
 -- The format of a sheet, field by field.
-use Rattle.std.specs.Prelude.{ℕ, ◌+◌, Bool, false, List, ◌==◌}
+use Rattle.std.specs.Prelude.{ℕ, ◌+◌, List, ◌==◌}
 use Rattle.format.specs.Formats.{Format, done, field, turned, part, either, inside, many}
 use Rattle.format.specs.declared.fault.FieldFault.{FieldFault}
 use Rattle.script.specs.Scripts.{script}

@@ -1,5 +1,5 @@
 -- A session over the houses of a sheet, with the sheet's agreement. Assumes nothing.
-use Rattle.std.proofs.Common.{◌≡◌, ℕ, List, Ok, Err, sym, refl, ap, ◌∙◌, subst, arith}
+use Rattle.std.proofs.Common.{◌≡◌, ℕ, List, Ok, Err, subst, arith}
 use Rattle.refusal.specs.Judging.{Judgement, accepted, under}
 use Rattle.order.specs.Orders.{PartialOrder}
 use Rattle.agreement.specs.Agreements.{agreed, joint}

@@ -1,4 +1,4 @@
-use Rattle.std.proofs.Common.{ℕ, ◌+◌, List, ◌++◌, vec_items, sym, ap, ◌∙◌, subst}
+use Rattle.std.proofs.Common.{ℕ, List, ◌++◌, vec_items, sym, ap, ◌∙◌, subst}
 use Rattle.agreement.specs.Views.{listed, Lists}
 use Rattle.agreement.proofs.Listings.{left_take, left_skip, left_all, lists}
 use Rattle.agreement.proofs.views.items_up_to.Goals as goal

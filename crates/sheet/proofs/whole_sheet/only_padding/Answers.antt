@@ -1,4 +1,4 @@
-use Rattle.std.proofs.Common.{◌≡◌, sym, ap, ◌∙◌}
+use Rattle.std.proofs.Common.{sym}
 use Rattle.sheet.proofs.Padding.{too_much, padding_read, padding_never_lacks}
 use Rattle.sheet.proofs.whole_sheet.only_padding.Goals as goal
 

@@ -1,4 +1,4 @@
-use Rattle.std.proofs.Common.{Ok, Err, Result, sym, subst}
+use Rattle.std.proofs.Common.{Result, sym, subst}
 use Rattle.refusal.proofs.Judging.{break_is}
 use Rattle.house.specs.contracts.table.TableOrder.TheImpl.{ghosts as ordered}
 use Rattle.machine.specs.declared.script_type.ScriptType.{ScriptType}

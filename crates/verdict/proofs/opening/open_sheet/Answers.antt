@@ -1,4 +1,4 @@
-use Rattle.std.proofs.Common.{◌≡◌, sym, refl, ap, ◌∙◌, subst}
+use Rattle.std.proofs.Common.{sym, refl, ap, ◌∙◌, subst}
 use Rattle.refusal.specs.Judging.{Judgement}
 use Rattle.refusal.proofs.Accepting.{under_accepted}
 use Rattle.agreement.specs.Agreements.{agreed}

@@ -1,5 +1,5 @@
-use Rattle.std.proofs.Common.{◌≡◌, Ok, sym, refl, ap, ◌∙◌, subst, ap₂}
-use Rattle.refusal.specs.Judging.{Judgement, accepted, ◌⨟◌, under}
+use Rattle.std.proofs.Common.{◌≡◌, sym, refl, ap, ◌∙◌, subst, ap₂}
+use Rattle.refusal.specs.Judging.{Judgement, accepted, under}
 use Rattle.refusal.proofs.Judging.{then_at}
 use Rattle.agreement.specs.Agreements.{Joint, agreed}
 use Rattle.agreement.specs.Certified.{certified}
