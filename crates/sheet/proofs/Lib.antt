@@ -2,6 +2,5 @@ pub mod Sound
 pub mod Laws
 pub mod Houses
 pub mod Padding
-pub mod Slices
 pub mod Steps
 pub mod Alone

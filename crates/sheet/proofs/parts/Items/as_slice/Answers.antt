@@ -1,5 +1,5 @@
 use Rattle.std.proofs.Common.{◌≡◌, length, rules}
-use Rattle.sheet.proofs.Slices.{meant}
+use Rattle.format.proofs.Slices.{meant}
 use Rattle.sheet.proofs.parts.Items.as_slice.Goals as goal
 
 pub returns : goal.returns
