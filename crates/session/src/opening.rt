@@ -78,7 +78,7 @@ impl<N: Lattice, F: Lattice> Session<N, F> {
     // Sets the values, or leaves everything as it was.
     fn set_values(&mut self, near: &[u64], far: &[u64]) -> Result<(), CallFault>
         ensures answer { result ≡ open_judged self.old.stage (known_of (N.Order.meaning self.old.near) (F.Order.meaning self.old.far) self.old.maps self.old.table.items) near.now far.now }
-        ensures record { self.new ≡ record { near = self.old.near; far = self.old.far; maps = self.old.maps; stage = if_so (open_judged self.old.stage (known_of (N.Order.meaning self.old.near) (F.Order.meaning self.old.far) self.old.maps self.old.table.items) near.entry.now far.now) open_stage self.old.stage; table = record { items = self.old.table.items; values = if_so (open_judged self.old.stage (known_of (N.Order.meaning self.old.near) (F.Order.meaning self.old.far) self.old.maps self.old.table.items) near.entry.now far.now) (opened near.entry.now far.now) self.old.table.values } } }
+        ensures record { self.new ≡ record { near = self.old.near; far = self.old.far; maps = self.old.maps; stage = if_so (open_judged self.old.stage (known_of (N.Order.meaning self.old.near) (F.Order.meaning self.old.far) self.old.maps self.old.table.items) near.now far.now) open_stage self.old.stage; table = record { items = self.old.table.items; values = if_so (open_judged self.old.stage (known_of (N.Order.meaning self.old.near) (F.Order.meaning self.old.far) self.old.maps self.old.table.items) near.now far.now) (opened near.now far.now) self.old.table.values } } }
     {
         at_stage(self.stage, Stage::Certified)?;
         of_length(Side::Near, &self.table.items.near, near)?;
@@ -99,7 +99,7 @@ impl<N: Lattice, F: Lattice> Session<N, F> {
         far: &[u64],
     ) -> Result<OpenPass, Returned<CertifiedPass>>
         ensures answer { MatchResult result (λ _. (open_judged self.old.stage (known_of (N.Order.meaning self.old.near) (F.Order.meaning self.old.far) self.old.maps self.old.table.items) near.now far.now) ≡ accepted) (λ e. (open_judged self.old.stage (known_of (N.Order.meaning self.old.near) (F.Order.meaning self.old.far) self.old.maps self.old.table.items) near.now far.now) ≡ Err e.fault) }
-        ensures record { self.new ≡ record { near = self.old.near; far = self.old.far; maps = self.old.maps; stage = if_so (open_judged self.old.stage (known_of (N.Order.meaning self.old.near) (F.Order.meaning self.old.far) self.old.maps self.old.table.items) near.entry.now far.now) open_stage self.old.stage; table = record { items = self.old.table.items; values = if_so (open_judged self.old.stage (known_of (N.Order.meaning self.old.near) (F.Order.meaning self.old.far) self.old.maps self.old.table.items) near.entry.now far.now) (opened near.entry.now far.now) self.old.table.values } } }
+        ensures record { self.new ≡ record { near = self.old.near; far = self.old.far; maps = self.old.maps; stage = if_so (open_judged self.old.stage (known_of (N.Order.meaning self.old.near) (F.Order.meaning self.old.far) self.old.maps self.old.table.items) near.now far.now) open_stage self.old.stage; table = record { items = self.old.table.items; values = if_so (open_judged self.old.stage (known_of (N.Order.meaning self.old.near) (F.Order.meaning self.old.far) self.old.maps self.old.table.items) near.now far.now) (opened near.now far.now) self.old.table.values } } }
     {
         match self.set_values(near, far) {
             Ok(()) => {
