@@ -1,7 +1,7 @@
 -- Bits and the numbers that they spell, the bits of bytes, and pieces of bits. Assumes nothing.
 use Rattle.std.proofs.Common.{◌≡◌, ℕ, zero, suc, ◌+◌, ◌-◌, ◌*◌, ◌/◌, ◌%◌, ◌^◌, ◌<◌, ◌≤◌, Bool, true, false, List, [], ◌∷◌, ◌++◌, length, take, drop, sym, refl, ap, ◌∙◌, subst, ap₂, append_assoc, mod-eq_of_lt, mul_assoc, add-mul, add-one, one-add, arith, pow_mono}
-use native.Mathlib.Nat.{mod-one, two-pow-succ}
-use lib.Pow.{mod-mod-pow}
+use Rattle.std.proofs.Math.Nat.{mod-one, two-pow-succ}
+use Rattle.std.proofs.Math.Pow.{mod-mod-pow}
 use Rattle.std.proofs.lemmas.Nat.{pow-add, mod-pow-add, mod_below, shr_high, mod_low}
 use Rattle.std.proofs.lemmas.List.{length-append, length-take, length-drop, length-take-le, take-append-drop, drop-drop, take_at, drop_at, drop-append-le, take-append-le}
 use Rattle.std.proofs.lemmas.Bool.{eqb-true, eqb-false}

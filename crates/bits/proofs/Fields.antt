@@ -1,6 +1,6 @@
 -- The fields of bytes: what a field answers, and that a written field is read back. Assumes nothing.
 use Rattle.std.proofs.Common.{◌≡◌, ℕ, ◌+◌, ◌-◌, ◌*◌, ◌/◌, ◌%◌, ◌^◌, ◌<◌, ◌≤◌, min, Bool, leb, ◌⊎◌, List, ◌++◌, length, take, drop, Ok, Err, sym, refl, ap, ◌∙◌, ap₂, inl, inr, mod-eq_of_lt, arith, pow_mono}
-use native.Mathlib.Nat.{mod-le}
+use Rattle.std.proofs.Math.Nat.{mod-le}
 use Rattle.std.proofs.lemmas.List.{length-drop, length-take-le, take-append-drop, length-append}
 use Rattle.std.proofs.lemmas.Bool.{cases_lt, cond-true, cond-false, le-leb, lt-leb}
 use Rattle.bits.specs.Bits.{bits_of, number, all_bits, piece, field_read}

@@ -1,6 +1,6 @@
 -- Fields over bytes: what a reader's field tells of a format's, and a number with its bits turned. Assumes nothing.
 use Rattle.std.proofs.Common.{◌≡◌, ℕ, zero, suc, ◌+◌, ◌-◌, ◌*◌, ◌/◌, ◌%◌, ◌^◌, ◌<◌, ◌≤◌, min, Bool, ◌⊎◌, List, [], ◌∷◌, ◌++◌, reverse, length, take, Ok, Err, sym, ap, ◌∙◌, subst, ap₂, inl, inr, mul_assoc, add-mul, suc-add, div-one, one-add, arith, pow_mono}
-use native.Mathlib.Nat.{two-pow-succ}
+use Rattle.std.proofs.Math.Nat.{two-pow-succ}
 use Rattle.std.proofs.lemmas.Nat.{shl-shr, shr-shr, shr_below}
 use Rattle.std.proofs.lemmas.List.{length-reverse, reverse-append, take_all, take_at, append-nil}
 use Rattle.std.proofs.lemmas.Bool.{cases_lt}

@@ -1,7 +1,7 @@
 -- The search for a least upper label finds the one that there is. Assumes nothing.
 use Rattle.std.proofs.Common.{◌≡◌, ℕ, zero, suc, ◌<◌, ◌≤◌, Bool, true, false, cond, not, ◌||◌, ltb, List, [], ◌∷◌, is_some, Some, None, Option, sym, refl, ap, ◌∙◌, ⊎_elim, eq-or-lt_of_le, arith}
-use mathlib.Core.Bool.{Bool-set}
-use mathlib.Core.Logic.{∥∥₁_elim, ∥∥₁_map}
+use Rattle.std.proofs.Math.Bool.{Bool-set}
+use Rattle.std.proofs.Math.Logic.{∥∥₁_elim, ∥∥₁_map}
 use Rattle.std.proofs.lemmas.Bool.{ltb-true, lt-ltb, and_parts, and_from, both_ways, cond-true, cond-false, cases_Bool, or_cases, or_left, or_right, not-true, not_from_false}
 use Rattle.order.specs.Orders.{PartialOrder, dual}
 use Rattle.order.specs.Bounds.{Known, Upper, Supremum, Joined, Joins}

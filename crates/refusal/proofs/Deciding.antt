@@ -1,4 +1,4 @@
--- Tests that decide a fact, beside those of the shelf. Assumes nothing.
+-- Tests that decide a fact, beside those of std. Assumes nothing.
 use Rattle.std.proofs.Common.{◌≡◌, ℕ, ◌≤◌, Bool, true, false, not, ◌||◌, leb, Decides, refl}
 use Rattle.std.proofs.lemmas.Bool.{both_ways, leb-true, le-leb}
 

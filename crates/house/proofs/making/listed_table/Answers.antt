@@ -1,5 +1,5 @@
 use Rattle.std.proofs.Common.{◌≡◌, ℕ, ◌-◌, ◌≤◌, true, false, List, take, Decides, sym, ap, ◌∙◌, subst, arith}
-use native.Mathlib.Nat.{sub-zero}
+use Rattle.std.proofs.Math.Nat.{sub-zero}
 use Rattle.tables.specs.Listed.{rows_judged, Holds, LatticeRows}
 use Rattle.house.specs.Houses.{house_judged}
 use Rattle.house.specs.declared.description.House.TheVariants.{Listed}

@@ -1,5 +1,4 @@
-use Rattle.std.proofs.Common.{ℕ, ap, ◌∙◌, arith}
-use lib.Bits.{bit_or}
+use Rattle.std.proofs.Common.{ℕ, ap, ◌∙◌, arith, bit_or}
 use Rattle.std.proofs.lemmas.Nat.{shl_whole, or_shifted}
 use Rattle.tables.proofs.graded.Graded.label.Goals as goal
 
