@@ -1,38 +1,19 @@
-// Sheets in hexadecimal, one to a line of standard input, with the verdict of each.
+// Sheets in hexadecimal, one to a line of standard input, with the verdict of each. A dash is an empty sheet.
 #![tactic(auto)]
 
-use std::alloc::{AllocError, Global};
+use std::alloc::Global;
 use verdict::judge_sheet;
 
-fn digit(byte: u8) -> Option<u8> {
-    match byte {
-        b'0'..=b'9' => Some(byte - b'0'),
-        b'a'..=b'f' => Some(byte - b'a' + 10),
-        _ => None,
+fn spelled(heap: Global, line: &str) -> anyhow::Result<Vec<u8>> {
+    if line == "-" {
+        return Ok(Vec::new(heap));
     }
-}
-
-fn pair(high: u8, low: u8) -> Option<u8> {
-    Some(digit(high)? << 4 | digit(low)?)
-}
-
-// The bytes that a line spells; what is no digit, as the dash of an empty sheet, spells nothing.
-fn spelled(heap: Global, line: &[u8]) -> Result<Vec<u8>, AllocError> {
-    let mut bytes = Vec::new(heap);
-    for two in line.chunks(2) {
-        let [high, low] = two else {
-            continue;
-        };
-        if let Some(byte) = pair(*high, *low) {
-            bytes.push(byte)?;
-        }
-    }
-    Ok(bytes)
+    Ok(hex::decode(heap, line)?)
 }
 
 fn run(rt: &HostRuntime) -> anyhow::Result<()> {
     for line in rt.lines(rt.alloc()) {
-        let bytes = spelled(rt.alloc(), line?.as_bytes())?;
+        let bytes = spelled(rt.alloc(), line?.as_str())?;
         rt.println(judge_sheet(bytes.as_slice()))?;
     }
     Ok(())
