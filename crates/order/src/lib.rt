@@ -2,7 +2,9 @@
 #![tactic(auto)]
 
 mod bound;
+mod choice;
 mod fold;
+mod lent;
 mod order;
 mod reversed;
 
