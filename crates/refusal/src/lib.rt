@@ -1,18 +1,19 @@
 // What a refusal says: its number, the side that it is about, and two numbers, p and q, that name the place.
 #![tactic(auto)]
 
-ghost use Rattle.std.specs.Prelude.{◌≡◌};
+ghost use Rattle.std.specs.Prelude.{◌≡◌, Some};
 ghost use Rattle.refusal.specs.Sides.{other, side_number, side_word};
 
 mod refused;
 
 pub use refused::Refused;
+use std::fmt;
 
 // One of the two houses that an agreement joins.
 #[derive(Clone, Copy, PartialEq, Eq, Debug)]
 pub enum Side {
-    Near,
-    Far,
+    Near = 0,
+    Far = 1,
 }
 
 impl Side {
@@ -36,6 +37,14 @@ impl Side {
     }
 }
 
+impl fmt::Display for Side {
+    ghost output = { λ v. Some (side_word v) };
+
+    fn fmt<W: fmt::Write>(&self, f: &mut fmt::Formatter<W>) -> fmt::Result {
+        f.write_str(self.word())
+    }
+}
+
 // A refusal as the rules number it. It has no side where it is about neither house, or about one that stands alone.
 // The first number is wide, since it may be a bit of bytes of any length.
 #[derive(Clone, Copy, PartialEq, Eq, Debug)]
@@ -51,10 +60,6 @@ impl Refusal {
     pub fn side_number(&self) -> u8
         ensures { result ≡ side_number self.now.side }
     {
-        match self.side {
-            Some(Side::Near) => 0,
-            Some(Side::Far) => 1,
-            None => 2,
-        }
+        self.side.map_or(2, |side| side as u8)
     }
 }

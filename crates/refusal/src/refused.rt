@@ -1,4 +1,4 @@
-ghost use Rattle.std.specs.Prelude.{Some};
+ghost use Rattle.std.specs.Prelude.{◌≡◌, Some};
 ghost use Rattle.refusal.specs.Texts.{refused_text};
 
 use crate::Refusal;
@@ -9,6 +9,15 @@ use std::fmt;
 pub struct Refused {
     pub line: u64,
     pub refusal: Refusal,
+}
+
+// A refusal outside of the lines.
+impl From<Refusal> for Refused {
+    ghost from_gives = { λ refusal r. r ≡ record { line = 0; refusal = refusal } };
+
+    fn from(refusal: Refusal) -> Refused {
+        Refused { line: 0, refusal }
+    }
 }
 
 impl fmt::Display for Refused {
