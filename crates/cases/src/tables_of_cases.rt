@@ -1,5 +1,6 @@
 // What tables are refused with: number, p and q, or nothing where they are accepted.
 use order::Order;
+use refusal::Refusal;
 use tables::{Graded, Listed};
 
 struct Rows {
@@ -89,7 +90,7 @@ fn refused(rows: &[u32]) -> Option<(u8, u128, u64)> {
     match place.write(rows) {
         Ok(()) => None,
         Err(fault) => {
-            let refusal = fault.refusal();
+            let refusal = Refusal::from(fault);
             Some((refusal.number, refusal.p, refusal.q))
         }
     }
@@ -165,7 +166,7 @@ fn graded_tables(rt: HostRuntime) {
         let refused = match Graded::new(case.levels, case.compartments) {
             Ok(_) => None,
             Err(fault) => {
-                let refusal = fault.refusal();
+                let refusal = Refusal::from(fault);
                 Some((refusal.number, refusal.p, refusal.q))
             }
         };

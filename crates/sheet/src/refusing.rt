@@ -37,7 +37,7 @@ impl SheetFault {
                 0,
                 Refusal {
                     side: Some(side),
-                    ..fault.refusal()
+                    ..Refusal::from(fault)
                 },
             ),
             SheetFault::Agreement(fault) => (0, fault.refusal()),

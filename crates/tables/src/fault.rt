@@ -22,12 +22,12 @@ pub enum TableFault {
     NoMeet { a: u64, b: u64 },
 }
 
-impl TableFault {
-    // The refusal that names this fault.
-    pub fn refusal(&self) -> Refusal
-        ensures { result ≡ refusal_of self.now }
-    {
-        let (number, p, q) = match *self {
+// The refusal that names a fault.
+impl From<TableFault> for Refusal {
+    ghost from_gives = { λ fault refusal. refusal ≡ refusal_of fault };
+
+    fn from(fault: TableFault) -> Refusal {
+        let (number, p, q) = match fault {
             TableFault::Rows => (4, 0, 0),
             TableFault::Limits {
                 levels,

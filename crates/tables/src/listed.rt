@@ -26,24 +26,29 @@ impl Listed {
         }
     }
 
-    // The lattice of these rows, or their first fault.
-    fn of(rows: &[u32]) -> Result<Listed, TableFault>
-        ensures { MatchResult result (λ t. (rows_judged rows.now ≡ Ok tt) × Holds rows.now t.table.count t.table.rows) (λ e. rows_judged rows.now ≡ Err e) }
-    {
-        let table = Ordered::of(rows)?;
-        judge_bounds(&table, Bound::Join)?;
-        judge_bounds(&table, Bound::Meet)?;
-        Ok(Listed { table })
-    }
-
     // Takes these rows in place of its own, if they are 1 to 32 and a lattice; else it stays as it is.
     pub fn write(&mut self, rows: &[u32]) -> Result<(), TableFault>
         ensures answer { result ≡ rows_judged rows.now }
         ensures place { MatchResult result (λ _. Holds rows.now self.new.table.count self.new.table.rows) (λ _. self.new ≡ self.old) }
         ensures law { Decides (is_ok result) (LatticeRows rows.now) }
     {
-        *self = Listed::of(rows)?;
+        *self = Listed::try_from(rows)?;
         Ok(())
+    }
+}
+
+// The lattice of these rows, or their first fault.
+impl TryFrom<&[u32]> for Listed {
+    type Error = TableFault;
+
+    ghost try_from_gives = { λ rows r. MatchResult r (λ t. (rows_judged rows.now ≡ Ok tt) × Holds rows.now t.table.count t.table.rows) (λ e. rows_judged rows.now ≡ Err e)
+        × Decides (is_ok r) (LatticeRows rows.now) };
+
+    fn try_from(rows: &[u32]) -> Result<Listed, TableFault> {
+        let table = Ordered::of(rows)?;
+        judge_bounds(&table, Bound::Join)?;
+        judge_bounds(&table, Bound::Meet)?;
+        Ok(Listed { table })
     }
 }
 

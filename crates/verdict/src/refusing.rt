@@ -21,7 +21,7 @@ impl JudgeFault {
                 line: 0,
                 refusal: Refusal {
                     side: Some(side),
-                    ..fault.refusal()
+                    ..Refusal::from(fault)
                 },
             },
             JudgeFault::Call(fault) => fault.refused(),
