@@ -13,11 +13,13 @@ use Rattle.agreement.specs.Maps.{at, is_settled}
 use Rattle.agreement.specs.Rules.{total_judged, monotone_judged, rising_judged, stable_judged, items_judged, keeps, rises, stays, lawful_item, no_item}
 use Rattle.agreement.specs.Connection.{Total, Monotone, Rising, Stable, Lawful, LawfulItems}
 use Rattle.agreement.specs.Agreements.{Joint}
-use Rattle.agreement.specs.Certified.{Rule, totality, monotony, rise, stability, lawfulness, rule_judged, rules, all_judged, certified, on, Keeps, Breaks, FirstBroken, Smallest, SmallestPair, Holds}
+use Rattle.agreement.specs.Certified.{rule_judged, rules, all_judged, certified, on, Keeps, Breaks, FirstBroken, Smallest, SmallestPair, Holds}
 use Rattle.agreement.specs.declared.item.Item.{Item}
 use Rattle.agreement.specs.declared.fault.Broken.{Broken}
 use Rattle.agreement.specs.declared.fault.Broken.TheVariants.{Length, Entry, NotMonotone, Falls, Drifts, TooMany, Unlawful}
 use Rattle.agreement.specs.declared.fault.Fault.{Fault}
+use Rattle.agreement.specs.declared.rule.Rule.{Rule}
+use Rattle.agreement.specs.declared.rule.Rule.TheVariants.{Totality, Monotony, Rise, Stability, Lawfulness}
 use Rattle.agreement.proofs.Connections.{keeps_total, rises_total, stays_total, settled_total, settled_parts}
 
 -- tests at the numbers below n, each of which decides a fact
@@ -100,12 +102,12 @@ abbrev later : List (Rule × Side)
 later = drop 2 rules
 
 module _ (J : Joint) where
-  totality_fits : (s : Side) → Fits (rule_judged J totality s) (Keeps J totality s) (Breaks J totality s)
+  totality_fits : (s : Side) → Fits (rule_judged J Totality s) (Keeps J Totality s) (Breaks J Totality s)
   totality_fits s = total_fits (J.order s) (J.order (other s)) (J.map s) (J.map (other s))
 
   -- the other rules are judged where both maps are total
-  module _ (near : Keeps J totality Near) (far : Keeps J totality Far) where
-    own : (s : Side) → Keeps J totality s
+  module _ (near : Keeps J Totality Near) (far : Keeps J Totality Far) where
+    own : (s : Side) → Keeps J Totality s
     own Near = near
     own Far = far
 
@@ -114,11 +116,11 @@ module _ (J : Joint) where
     across Far = near
 
     rule_fits : (r : Rule) (s : Side) → Fits (rule_judged J r s) (Keeps J r s) (Breaks J r s)
-    rule_fits totality s = totality_fits s
-    rule_fits monotony s = monotone_fits (J.order s) (J.order (other s)) (J.map s) (J.map (other s)) (own s) (across s)
-    rule_fits rise s = rising_fits (J.order s) (J.order (other s)) (J.map s) (J.map (other s)) (own s) (across s)
-    rule_fits stability s = stable_fits (J.order s) (J.order (other s)) (J.map s) (J.map (other s)) (own s) (across s)
-    rule_fits lawfulness s = items_fits (J.order s) (J.order (other s)) (J.map s) (J.map (other s)) (own s) (across s) (J.items s)
+    rule_fits Totality s = totality_fits s
+    rule_fits Monotony s = monotone_fits (J.order s) (J.order (other s)) (J.map s) (J.map (other s)) (own s) (across s)
+    rule_fits Rise s = rising_fits (J.order s) (J.order (other s)) (J.map s) (J.map (other s)) (own s) (across s)
+    rule_fits Stability s = stable_fits (J.order s) (J.order (other s)) (J.map s) (J.map (other s)) (own s) (across s)
+    rule_fits Lawfulness s = items_fits (J.order s) (J.order (other s)) (J.map s) (J.map (other s)) (own s) (across s) (J.items s)
 
     rules_fit : (rs : List (Rule × Side)) → Fits (all_judged J rs) (AllKept J rs) (FirstBroken J rs)
     rules_fit [] = record { kept = λ _. tt; accepts = λ _. refl; broken = λ f e. absurd (never e) }

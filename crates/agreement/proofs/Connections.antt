@@ -1,10 +1,12 @@
 -- What the rules say where both maps are total, and what follows of a Lagois connection. Assumes nothing.
 use Rattle.std.proofs.Common.{◌≡◌, ℕ, ◌<◌, Bool, true, false, cond, not, ◌&&◌, ◌||◌, eqb, ltb, List, length, Some, None, Option, refl, ap, ◌∙◌, arith}
 use Rattle.std.proofs.lemmas.Bool.{lt-ltb, ltb-true, and_parts, eqb-true, and_from, cond-true, both_ways}
+use Rattle.std.proofs.lemmas.Bool.Decides.{same_from_decides}
+use Rattle.refusal.proofs.Deciding.{decides_self}
 use Rattle.order.specs.Orders.{PartialOrder}
-use Rattle.agreement.specs.Maps.{at, image_of, and_then, round_of, related, is_settled}
+use Rattle.agreement.specs.Maps.{at, image_of, and_then, round_of, related, is_settled, moves}
 use Rattle.agreement.specs.Rules.{keeps, rises, stays}
-use Rattle.agreement.specs.Connection.{Total, Settled}
+use Rattle.agreement.specs.Connection.{Total, Settled, MovesWithinView}
 
 pub image_total : (P Q : PartialOrder) (m : List ℕ) → Total P Q m → (a : ℕ) → a < P.count → image_of P Q m a ≡ Some (at m a)
 image_total P Q m t a h =
@@ -55,3 +57,15 @@ settled_parts P Q m w a e = across (image_of P Q m a) refl e
     across : (o : Option ℕ) → image_of P Q m a ≡ o → related eqb (and_then o (image_of Q P w)) (Some a) ≡ true → (a < P.count) × Settled m w a
     across None q t = absurd (both_ways false refl t)
     across (Some x) q t = and_back x q (image_of Q P w x) refl t
+
+-- in a connection the image of a label flows to a settled label exactly if the label flows to the image of that
+pub moves_within : (P Q : PartialOrder) (m : List ℕ) (a b : ℕ) (r : Bool) → r ≡ moves P Q m a b → MovesWithinView P Q m a b r
+moves_within P Q m a b r e w l h k s =
+    e ∙ ap (λ (o : Option ℕ). related Q.flow o (Some b)) (image_total P Q m l.out_total a h)
+    ∙ same_from_decides (Q.flow (at m a) b) (P.flow a (at w b)) (decides_self (Q.flow (at m a) b)) (down, up)
+  where
+    down : P.flow a (at w b) ≡ true → Q.flow (at m a) b ≡ true
+    down f = rw s at (l.out_monotone a (at w b) f)
+
+    up : Q.flow (at m a) b ≡ true → P.flow a (at w b) ≡ true
+    up f = P.transitive a (at w (at m a)) (at w b) (l.lc1 a h) (l.back_monotone (at m a) b f)

@@ -5,6 +5,7 @@ use Rattle.refusal.specs.declared.Side.TheVariants.{Near, Far}
 use Rattle.order.specs.Orders.{PartialOrder}
 use Rattle.agreement.specs.declared.certification.Agreement.{Agreement}
 use Rattle.agreement.specs.declared.item.Item.{Item}
+use Rattle.agreement.specs.declared.joined.Joined.{Joined}
 
 pub record Joint : Type 0 where
   pub order : Side → PartialOrder
@@ -26,3 +27,7 @@ joint N F out back near far = record {
 -- an agreement as it is handed in, between two orders
 abbrev pub agreed : PartialOrder → PartialOrder → Agreement → Joint
 agreed N F a = joint N F a.out.now a.back.now a.near_items.now a.far_items.now
+
+-- the same of two orders with their agreement, by what the orders mean
+abbrev pub joined : {N F : Type 0} → (N → PartialOrder) → (F → PartialOrder) → Joined N F → Joint
+joined near far j = agreed (near j.near.now) (far j.far.now) j.agreement

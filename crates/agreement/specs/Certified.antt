@@ -11,26 +11,25 @@ use Rattle.agreement.specs.Agreements.{Joint}
 use Rattle.agreement.specs.declared.fault.Broken.{Broken}
 use Rattle.agreement.specs.declared.fault.Broken.TheVariants.{Length, Entry, NotMonotone, Falls, Drifts, TooMany, Unlawful}
 use Rattle.agreement.specs.declared.fault.Fault.{Fault}
+use Rattle.agreement.specs.declared.rule.Rule.{Rule}
+use Rattle.agreement.specs.declared.rule.Rule.TheVariants.{Totality, Monotony, Rise, Stability, Lawfulness}
 
 abbrev pub on : Side → Broken → Fault
 on s b = record { side = s; broken = b }
 
-pub data Rule : Type 0 where
-  totality monotony rise stability lawfulness : Rule
-
 -- one rule on one side
 abbrev pub rule_judged : Joint → Rule → Side → Judgement Broken
-rule_judged J totality s = total_judged (J.order s) (J.order (other s)) (J.map s)
-rule_judged J monotony s = monotone_judged (J.order s) (J.order (other s)) (J.map s)
-rule_judged J rise s = rising_judged (J.order s) (J.order (other s)) (J.map s) (J.map (other s))
-rule_judged J stability s = stable_judged (J.order s) (J.order (other s)) (J.map s) (J.map (other s))
-rule_judged J lawfulness s = items_judged (J.order s) (J.order (other s)) (J.map s) (J.map (other s)) (J.items s)
+rule_judged J Totality s = total_judged (J.order s) (J.order (other s)) (J.map s)
+rule_judged J Monotony s = monotone_judged (J.order s) (J.order (other s)) (J.map s)
+rule_judged J Rise s = rising_judged (J.order s) (J.order (other s)) (J.map s) (J.map (other s))
+rule_judged J Stability s = stable_judged (J.order s) (J.order (other s)) (J.map s) (J.map (other s))
+rule_judged J Lawfulness s = items_judged (J.order s) (J.order (other s)) (J.map s) (J.map (other s)) (J.items s)
 
 -- the order of the rules
 abbrev pub rules : List (Rule × Side)
 rules =
-    (totality, Near) ∷ (totality, Far) ∷ (monotony, Near) ∷ (monotony, Far) ∷ (rise, Near) ∷ (rise, Far)
-    ∷ (stability, Near) ∷ (stability, Far) ∷ (lawfulness, Near) ∷ (lawfulness, Far) ∷ []
+    (Totality, Near) ∷ (Totality, Far) ∷ (Monotony, Near) ∷ (Monotony, Far) ∷ (Rise, Near) ∷ (Rise, Far)
+    ∷ (Stability, Near) ∷ (Stability, Far) ∷ (Lawfulness, Near) ∷ (Lawfulness, Far) ∷ []
 
 abbrev pub all_judged : Joint → List (Rule × Side) → Judgement Fault
 all_judged J [] = Ok tt
@@ -41,11 +40,11 @@ certified J = all_judged J rules
 
 -- what a rule asks of one side
 abbrev pub Keeps : Joint → Rule → Side → Type 0
-Keeps J totality s = Total (J.order s) (J.order (other s)) (J.map s)
-Keeps J monotony s = Monotone (J.order s) (J.order (other s)) (J.map s)
-Keeps J rise s = Rising (J.order s) (J.map s) (J.map (other s))
-Keeps J stability s = Stable (J.order s) (J.map s) (J.map (other s))
-Keeps J lawfulness s = LawfulItems (J.order s) (J.map s) (J.map (other s)) (J.items s)
+Keeps J Totality s = Total (J.order s) (J.order (other s)) (J.map s)
+Keeps J Monotony s = Monotone (J.order s) (J.order (other s)) (J.map s)
+Keeps J Rise s = Rising (J.order s) (J.map s) (J.map (other s))
+Keeps J Stability s = Stable (J.order s) (J.map s) (J.map (other s))
+Keeps J Lawfulness s = LawfulItems (J.order s) (J.map s) (J.map (other s)) (J.items s)
 
 -- the fault names the smallest number below n of which P does not hold
 abbrev pub Smallest : ℕ → (ℕ → Type 0) → (ℕ → Broken) → Broken → Type 0
@@ -59,19 +58,19 @@ SmallestPair n P fault x =
 
 -- one side breaks a rule, and the fault names its smallest broken case
 abbrev pub Breaks : Joint → Rule → Side → Broken → Type 0
-Breaks J totality s b =
+Breaks J Totality s b =
     let m = J.map s in
     let n = (J.order s).count in
     (((length m ≡ n) → ⊥) × (b ≡ Length))
     ⊎ ((length m ≡ n) × Smallest n (λ a. at m a < (J.order (other s)).count) (λ a. Entry a (at m a)) b)
-Breaks J monotony s b =
+Breaks J Monotony s b =
     let m = J.map s in
     SmallestPair (J.order s).count (λ a c. (J.order s).flow a c ≡ true → (J.order (other s)).flow (at m a) (at m c) ≡ true) NotMonotone b
-Breaks J rise s b = Smallest (J.order s).count (λ a. (J.order s).flow a (at (J.map (other s)) (at (J.map s) a)) ≡ true) Falls b
-Breaks J stability s b =
+Breaks J Rise s b = Smallest (J.order s).count (λ a. (J.order s).flow a (at (J.map (other s)) (at (J.map s) a)) ≡ true) Falls b
+Breaks J Stability s b =
     let m = J.map s in
     Smallest (J.order s).count (λ a. at m (at (J.map (other s)) (at m a)) ≡ at m a) Drifts b
-Breaks J lawfulness s b =
+Breaks J Lawfulness s b =
     let xs = J.items s in
     ((length xs ≤ 128 → ⊥) × (b ≡ TooMany))
     ⊎ ((length xs ≤ 128) × Smallest (length xs) (λ i. Lawful (J.order s) (J.map s) (J.map (other s)) (slice_index_or xs i no_item)) (λ i. Unlawful i (get_or xs i no_item).label) b)

@@ -1,11 +1,13 @@
 ghost use Rattle.std.specs.Prelude.{◌≡◌, is_ok, IfErr, Decides};
-ghost use Rattle.refusal.specs.Judging.{under};
-ghost use Rattle.agreement.specs.Agreements.{agreed};
-ghost use Rattle.agreement.specs.Certified.{certified, rules, on, FirstBroken, Holds};
+ghost use Rattle.refusal.specs.Judging.{◌⨟◌, under};
+ghost use Rattle.refusal.specs.declared.Side.TheVariants.{Near, Far};
+ghost use Rattle.agreement.specs.Agreements.{agreed, joined};
+ghost use Rattle.agreement.specs.Certified.{certified, rule_judged, rules, on, FirstBroken, Holds};
 
 use crate::fault::{Broken, Fault};
 use crate::item::Item;
-use crate::rules::{lawful, monotone, rising, stable, total};
+use crate::joined::Joined;
+use crate::rule::Rule;
 use order::Order;
 use refusal::Side;
 
@@ -18,37 +20,58 @@ pub struct Agreement<'a> {
     pub far_items: &'a [Item],
 }
 
-fn at(side: Side, judged: Result<(), Broken>) -> Result<(), Fault>
-    ensures { result ≡ under (on side) judged }
-{
-    match judged {
-        Ok(()) => Ok(()),
-        Err(broken) => Err(Fault { side, broken }),
+impl<'a, N: Order, F: Order> Joined<'a, N, F> {
+    // One rule on one side.
+    fn keeps(&self, rule: Rule, side: Side) -> Result<(), Broken>
+        ensures { result ≡ rule_judged (joined N.Order.meaning F.Order.meaning self.now) rule side }
+    {
+        let trip = self.trip(side);
+        match rule {
+            Rule::Totality => trip.across().total(),
+            Rule::Monotony => trip.across().monotone(),
+            Rule::Rise => trip.rising(),
+            Rule::Stability => trip.stable(),
+            Rule::Lawfulness => trip.lawful(self.items(side)),
+        }
+    }
+
+    // One rule on one side, with the side that breaks it.
+    fn kept_on(&self, rule: Rule, side: Side) -> Result<(), Fault>
+        ensures { result ≡ under (on side) (rule_judged (joined N.Order.meaning F.Order.meaning self.now) rule side) }
+    {
+        self.keeps(rule, side)
+            .map_err(|broken| Fault { side, broken })
+    }
+
+    // One rule on the near side and then on the far side.
+    fn kept(&self, rule: Rule) -> Result<(), Fault>
+        ensures { result ≡ (under (on Near) (rule_judged (joined N.Order.meaning F.Order.meaning self.now) rule Near) ⨟ under (on Far) (rule_judged (joined N.Order.meaning F.Order.meaning self.now) rule Far)) }
+    {
+        self.kept_on(rule, Side::Near)?;
+        self.kept_on(rule, Side::Far)
+    }
+
+    // The rules in their order.
+    fn judge(&self) -> Result<(), Fault>
+        ensures { result ≡ certified (joined N.Order.meaning F.Order.meaning self.now) }
+    {
+        self.kept(Rule::Totality)?;
+        self.kept(Rule::Monotony)?;
+        self.kept(Rule::Rise)?;
+        self.kept(Rule::Stability)?;
+        self.kept(Rule::Lawfulness)
+    }
+
+    // Accepts exactly a Lagois connection with lawful items, and else names the first broken case.
+    pub fn certify(&self) -> Result<(), Fault>
+        ensures verdict { result ≡ certified (joined N.Order.meaning F.Order.meaning self.now) }
+        ensures exact { Decides (is_ok result) (Holds (joined N.Order.meaning F.Order.meaning self.now)) }
+        ensures first { IfErr result (FirstBroken (joined N.Order.meaning F.Order.meaning self.now) rules) }
+    {
+        self.judge()
     }
 }
 
-// The rules in their order, each on the near side and then on the far side.
-fn judge<N: Order, F: Order>(near: &N, far: &F, agreement: &Agreement<'_>) -> Result<(), Fault>
-    ensures { result ≡ certified (agreed (N.Order.meaning near.now) (F.Order.meaning far.now) agreement.now) }
-{
-    let out = agreement.out;
-    let back = agreement.back;
-    at(Side::Near, total(near, far, out))?;
-    at(Side::Far, total(far, near, back))?;
-    at(Side::Near, monotone(near, far, out))?;
-    at(Side::Far, monotone(far, near, back))?;
-    at(Side::Near, rising(near, far, out, back))?;
-    at(Side::Far, rising(far, near, back, out))?;
-    at(Side::Near, stable(near, far, out, back))?;
-    at(Side::Far, stable(far, near, back, out))?;
-    at(
-        Side::Near,
-        lawful(near, far, out, back, agreement.near_items),
-    )?;
-    at(Side::Far, lawful(far, near, back, out, agreement.far_items))
-}
-
-// Accepts exactly a Lagois connection with lawful items, and else names the first broken case.
 pub fn certify<N: Order, F: Order>(
     near: &N,
     far: &F,
@@ -58,5 +81,10 @@ pub fn certify<N: Order, F: Order>(
     ensures exact { Decides (is_ok result) (Holds (agreed (N.Order.meaning near.now) (F.Order.meaning far.now) agreement.now)) }
     ensures first { IfErr result (FirstBroken (agreed (N.Order.meaning near.now) (F.Order.meaning far.now) agreement.now) rules) }
 {
-    judge(near, far, agreement)
+    let joined = Joined {
+        near,
+        far,
+        agreement: *agreement,
+    };
+    joined.certify()
 }

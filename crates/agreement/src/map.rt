@@ -1,62 +1,92 @@
 ghost use Rattle.std.specs.Prelude.{◌≡◌};
-ghost use Rattle.agreement.specs.Maps.{image_of, round_of, is_settled, moves};
-ghost use Rattle.agreement.specs.Connection.{SettledAreImages, MovesWithinView};
+ghost use Rattle.agreement.specs.Maps.{image_of, moves};
+ghost use Rattle.agreement.specs.Connection.{MovesWithinView};
+ghost use Rattle.agreement.specs.Rules.{total_judged, keeps, monotone_judged};
 
+use crate::fault::Broken;
 use order::Order;
 
-// The image of a label: absent where the label is unknown, has no entry, or has one that is no label of the other order.
-pub fn image<P: Order, Q: Order>(from: &P, to: &Q, map: &[u64], label: u64) -> Option<u64>
-    ensures { result ≡ image_of (P.Order.meaning from.now) (Q.Order.meaning to.now) map.now label }
-{
-    if label >= from.count() || label as usize >= map.len() {
-        return None;
-    }
-    let entry = map[label as usize];
-    if entry < to.count() {
-        Some(entry)
-    } else {
-        None
-    }
+// A map from the labels of one order to those of another, by the image of each label.
+#[derive(Clone, Copy)]
+pub struct LabelMap<'a, P, Q> {
+    pub from: P,
+    pub to: Q,
+    pub images: &'a [u64],
 }
 
-// Across by one map and back by the other.
-pub fn round_trip<P: Order, Q: Order>(
-    from: &P,
-    to: &Q,
-    map: &[u64],
-    back: &[u64],
-    label: u64,
-) -> Option<u64>
-    ensures { result ≡ round_of (P.Order.meaning from.now) (Q.Order.meaning to.now) map.now back.now label }
-{
-    let across = image(from, to, map, label)?;
-    image(to, from, back, across)
-}
-
-// Whether going across and back gives the label again. In a connection, whether it is an image of the map back.
-pub fn settled<P: Order, Q: Order>(from: &P, to: &Q, map: &[u64], back: &[u64], label: u64) -> bool
-    ensures value { result ≡ is_settled (P.Order.meaning from.now) (Q.Order.meaning to.now) map.now back.now label }
-    ensures images { SettledAreImages (P.Order.meaning from.now) (Q.Order.meaning to.now) map.now back.now label result }
-{
-    match round_trip(from, to, map, back, label) {
-        Some(again) => again == label,
-        None => false,
+impl<'a, P: Order, Q: Order> LabelMap<'a, P, Q> {
+    // The image of a label: absent where the label is unknown, has no entry, or has one that is no label of the other order.
+    pub fn image(&self, label: u64) -> Option<u64>
+        ensures { result ≡ image_of (P.Order.meaning self.now.from) (Q.Order.meaning self.now.to) self.now.images.now label }
+    {
+        if label >= self.from.count() {
+            return None;
+        }
+        let known = self.to.count();
+        self.images
+            .get(label as usize)
+            .copied()
+            .filter(|entry| *entry < known)
     }
-}
 
-// Whether the image of the source label flows to the target label. In a connection, to a settled target, whether the source is in the target's view.
-pub fn move_allowed<P: Order, Q: Order>(
-    from: &P,
-    to: &Q,
-    map: &[u64],
-    source: u64,
-    target: u64,
-) -> bool
-    ensures value { result ≡ moves (P.Order.meaning from.now) (Q.Order.meaning to.now) map.now source target }
-    ensures view { MovesWithinView (P.Order.meaning from.now) (Q.Order.meaning to.now) map.now source target result }
-{
-    match image(from, to, map, source) {
-        Some(across) => to.flows(across, target),
-        None => false,
+    // Whether the image of the source label flows to the target label. In a connection, to a settled target, whether the source is in the target's view.
+    pub fn allows(&self, source: u64, target: u64) -> bool
+        ensures value { result ≡ moves (P.Order.meaning self.now.from) (Q.Order.meaning self.now.to) self.now.images.now source target }
+        ensures view { MovesWithinView (P.Order.meaning self.now.from) (Q.Order.meaning self.now.to) self.now.images.now source target result }
+    {
+        let to = &self.to;
+        self.image(source)
+            .is_some_and(|across| to.flows(across, target))
+    }
+
+    // One entry for each label, and the entry is a label of the other order.
+    pub fn total(&self) -> Result<(), Broken>
+        ensures { result ≡ total_judged (P.Order.meaning self.now.from) (Q.Order.meaning self.now.to) self.now.images.now }
+    {
+        if self.images.len() as u64 != self.from.count() {
+            return Err(Broken::Length);
+        }
+        let known = self.to.count();
+        for (label, entry) in self.images.iter().enumerate() {
+            if *entry >= known {
+                return Err(Broken::Entry {
+                    label: label as u64,
+                    entry: *entry,
+                });
+            }
+        }
+        Ok(())
+    }
+
+    fn keeps_pair(&self, a: u64, b: u64) -> bool
+        ensures { result ≡ keeps (P.Order.meaning self.now.from) (Q.Order.meaning self.now.to) self.now.images.now a b }
+    {
+        if !self.from.flows(a, b) {
+            return true;
+        }
+        match (self.image(a), self.image(b)) {
+            (Some(x), Some(y)) => self.to.flows(x, y),
+            _ => false,
+        }
+    }
+
+    // If a flows to b, the image of a flows to the image of b.
+    pub fn monotone(&self) -> Result<(), Broken>
+        ensures { result ≡ monotone_judged (P.Order.meaning self.now.from) (Q.Order.meaning self.now.to) self.now.images.now }
+    {
+        let count = self.from.count();
+        let mut found = None;
+        'pairs: for a in 0..count {
+            for b in 0..count {
+                if !self.keeps_pair(a, b) {
+                    found = Some((a, b));
+                    break 'pairs;
+                }
+            }
+        }
+        match found {
+            Some((a, b)) => Err(Broken::NotMonotone { a, b }),
+            None => Ok(()),
+        }
     }
 }

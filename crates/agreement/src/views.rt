@@ -1,11 +1,11 @@
 ghost use Rattle.std.specs.Prelude.{◌≡◌, IfOk, vec_items};
 ghost use Rattle.std.specs.Option.{option_map};
-ghost use Rattle.agreement.specs.Agreements.{agreed};
-ghost use Rattle.agreement.specs.Views.{view_in, listed, Lists, ListsHouse, ListsView};
+ghost use Rattle.agreement.specs.Agreements.{agreed, joined};
+ghost use Rattle.agreement.specs.Views.{view_at, view_in, highest_in, listed, Lists, ListsView};
 
 use crate::certification::Agreement;
 use crate::item::Item;
-use crate::map::image;
+use crate::joined::Joined;
 use order::Order;
 use refusal::Side;
 use std::alloc::{AllocError, Global};
@@ -17,32 +17,30 @@ pub struct View {
     pub far: u64,
 }
 
-// The view of a label, absent where the label is unknown or a map on the way has no label for it.
-pub fn view_of<N: Order, F: Order>(
-    near: &N,
-    far: &F,
-    agreement: &Agreement<'_>,
-    side: Side,
-    label: u64,
-) -> Option<View>
-    ensures { result ≡ view_in (agreed (N.Order.meaning near.now) (F.Order.meaning far.now) agreement.now) side label }
-{
-    match side {
-        Side::Near => {
-            let across = image(near, far, agreement.out, label)?;
-            let own = image(far, near, agreement.back, across)?;
-            Some(View {
+impl View {
+    // The view with this highest label in the house of a side, and that one across.
+    fn at(side: Side, own: u64, across: u64) -> View
+        ensures { result ≡ view_at side own across }
+    {
+        match side {
+            Side::Near => View {
                 near: own,
                 far: across,
-            })
-        }
-        Side::Far => {
-            let across = image(far, near, agreement.back, label)?;
-            let own = image(near, far, agreement.out, across)?;
-            Some(View {
+            },
+            Side::Far => View {
                 near: across,
                 far: own,
-            })
+            },
+        }
+    }
+
+    // The highest label in a house.
+    fn highest(&self, house: Side) -> u64
+        ensures { result ≡ highest_in self.now house }
+    {
+        match house {
+            Side::Near => self.near,
+            Side::Far => self.far,
         }
     }
 }
@@ -66,25 +64,58 @@ pub fn items_up_to<O: Order>(
     Ok(numbers)
 }
 
-// The items of one house in a view.
-fn house_items<N: Order, F: Order>(
-    heap: Global,
-    near: &N,
-    far: &F,
-    agreement: &Agreement<'_>,
-    view: View,
-    house: Side,
-) -> Result<Vec<u64>, AllocError>
-    ensures { IfOk result (λ v. ListsHouse (agreed (N.Order.meaning near.now) (F.Order.meaning far.now) agreement.now) view house v.items) }
-{
-    match house {
-        Side::Near => items_up_to(heap, near, view.near, agreement.near_items),
-        Side::Far => items_up_to(heap, far, view.far, agreement.far_items),
+impl<'a, N: Order, F: Order> Joined<'a, N, F> {
+    // The view of a label, absent where the label is unknown or a map on the way has no label for it.
+    pub fn view(&self, side: Side, label: u64) -> Option<View>
+        ensures { result ≡ view_in (joined N.Order.meaning F.Order.meaning self.now) side label }
+    {
+        let trip = self.trip(side);
+        let across = trip.across().image(label)?;
+        let own = trip.home().image(across)?;
+        Some(View::at(side, own, across))
+    }
+
+    // The items of a house that somebody cleared for a label may come to depend on, by number; absent where the label
+    // has no view.
+    pub fn items_in_view(
+        &self,
+        heap: Global,
+        side: Side,
+        label: u64,
+        house: Side,
+    ) -> Result<Option<Vec<u64>>, AllocError>
+        ensures { IfOk result (λ o. ListsView (joined N.Order.meaning F.Order.meaning self.now) side label house (option_map vec_items o)) }
+    {
+        let Some(view) = self.view(side, label) else {
+            return Ok(None);
+        };
+        let items = items_up_to(
+            heap,
+            &self.house(house),
+            view.highest(house),
+            self.items(house),
+        )?;
+        Ok(Some(items))
     }
 }
 
-// The items of a house that somebody cleared for a label may come to depend on, by number; absent where the label has
-// no view.
+pub fn view_of<N: Order, F: Order>(
+    near: &N,
+    far: &F,
+    agreement: &Agreement<'_>,
+    side: Side,
+    label: u64,
+) -> Option<View>
+    ensures { result ≡ view_in (agreed (N.Order.meaning near.now) (F.Order.meaning far.now) agreement.now) side label }
+{
+    let joined = Joined {
+        near,
+        far,
+        agreement: *agreement,
+    };
+    joined.view(side, label)
+}
+
 pub fn items_in_view<N: Order, F: Order>(
     heap: Global,
     near: &N,
@@ -96,8 +127,10 @@ pub fn items_in_view<N: Order, F: Order>(
 ) -> Result<Option<Vec<u64>>, AllocError>
     ensures { IfOk result (λ o. ListsView (agreed (N.Order.meaning near.now) (F.Order.meaning far.now) agreement.now) side label house (option_map vec_items o)) }
 {
-    let Some(view) = view_of(near, far, agreement, side, label) else {
-        return Ok(None);
+    let joined = Joined {
+        near,
+        far,
+        agreement: *agreement,
     };
-    Ok(Some(house_items(heap, near, far, agreement, view, house)?))
+    joined.items_in_view(heap, side, label, house)
 }

@@ -2,12 +2,12 @@ use Rattle.std.proofs.Common.{arith}
 use Rattle.refusal.proofs.Judging.{check_at, left_none, left_more, left_err, left_all}
 use Rattle.agreement.specs.Rules.{rise_judged}
 use Rattle.agreement.specs.declared.fault.Broken.TheVariants.{Falls}
-use Rattle.agreement.proofs.rules.rising.Goals as goal
+use Rattle.agreement.proofs.trip.RoundTrip.rising.Goals as goal
 
 pub loop-label-init : goal.loop-label-init
 loop-label-init g c =
-    let P = g.P.Order.meaning c.args.from.now in
-    left_none (rise_judged P (g.Q.Order.meaning c.args.to.now) c.args.map.now c.args.back.now) P.count
+    let P = g.P.Order.meaning c.args.self.now.from in
+    left_none (rise_judged P (g.Q.Order.meaning c.args.self.now.to) c.args.self.now.out.now c.args.self.now.back.now) P.count
 
 pub loop-label-preserved : goal.loop-label-preserved
 loop-label-preserved g c =

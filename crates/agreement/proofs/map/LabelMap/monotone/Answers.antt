@@ -3,18 +3,18 @@ use Rattle.refusal.proofs.Judging.{check_at, left_none, left_more, left_err, lef
 use Rattle.agreement.specs.Rules.{row_judged, pair_judged}
 use Rattle.agreement.specs.declared.fault.Broken.TheVariants.{NotMonotone}
 use Rattle.agreement.proofs.Found.{same_found}
-use Rattle.agreement.proofs.rules.monotone.Goals as goal
-use Rattle.agreement.proofs.rules.monotone.Goals.{else-pairs-test, then-pairs-test+then-loop-b-test+then-not-keeps_pair}
+use Rattle.agreement.proofs.map.LabelMap.monotone.Goals as goal
+use Rattle.agreement.proofs.map.LabelMap.monotone.Goals.{else-pairs-test, then-pairs-test+then-loop-b-test+then-not-keeps_pair}
 
 pub pairs-init : goal.pairs-init
 pairs-init g c =
-    let P = g.P.Order.meaning c.args.from.now in
-    (refl, left_none (row_judged P (g.Q.Order.meaning c.args.to.now) c.args.map.now) P.count)
+    let P = g.P.Order.meaning c.args.self.now.from in
+    (refl, left_none (row_judged P (g.Q.Order.meaning c.args.self.now.to) c.args.self.now.images.now) P.count)
 
 pub loop-b-init : goal.loop-b-init
 loop-b-init g c =
-    let P = g.P.Order.meaning c.args.from.now in
-    (c.pairs.invariant.0, left_none (pair_judged P (g.Q.Order.meaning c.args.to.now) c.args.map.now c.pairs.a) P.count)
+    let P = g.P.Order.meaning c.args.self.now.from in
+    (c.pairs.invariant.0, left_none (pair_judged P (g.Q.Order.meaning c.args.self.now.to) c.args.self.now.images.now c.pairs.a) P.count)
 
 pub loop-b-preserved : goal.loop-b-preserved
 loop-b-preserved g c =

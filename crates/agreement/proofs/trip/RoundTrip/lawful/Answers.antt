@@ -3,12 +3,12 @@ use Rattle.std.proofs.lemmas.Bool.{le-leb}
 use Rattle.refusal.proofs.Judging.{check_at, left_after, left_more, left_err, left_all}
 use Rattle.agreement.specs.Rules.{item_judged, no_item}
 use Rattle.agreement.specs.declared.fault.Broken.TheVariants.{TooMany, Unlawful}
-use Rattle.agreement.proofs.rules.lawful.Goals as goal
+use Rattle.agreement.proofs.trip.RoundTrip.lawful.Goals as goal
 
 pub loop-place-init : goal.loop-place-init
 loop-place-init g c =
     let xs = c.args.items.now in
-    left_after (item_judged (g.P.Order.meaning c.args.from.now) (g.Q.Order.meaning c.args.to.now) c.args.map.now c.args.back.now xs) (length xs)
+    left_after (item_judged (g.P.Order.meaning c.args.self.now.from) (g.Q.Order.meaning c.args.self.now.to) c.args.self.now.out.now c.args.self.now.back.now xs) (length xs)
     (check_at TooMany (le-leb (length xs) 128 c.if-items-gt128.false))
 
 pub loop-place-preserved : goal.loop-place-preserved
