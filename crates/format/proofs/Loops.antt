@@ -3,7 +3,8 @@ use Rattle.std.proofs.Common.{◌≡◌, ℕ, suc, ◌+◌, ◌-◌, ◌<◌, �
 use Rattle.std.proofs.lemmas.List.{append-nil, append_assoc, take_at, take_more_set, length-append, length_push, length-replicate, length-set, length-take-le, set-append_right}
 use Rattle.bits.specs.Bits.{all_bits}
 use Rattle.bits.specs.declared.reader.Reader.{Reader}
-use Rattle.format.specs.Formats.{Format, Reading, followed, under, read, row_at, padded, Fills}
+use Rattle.fixed.specs.Lists.{padded}
+use Rattle.format.specs.Formats.{Format, Reading, followed, under, read, row_at, Fills}
 use Rattle.format.specs.declared.fault.FieldFault.{FieldFault}
 
 -- what was read, after values that were read before

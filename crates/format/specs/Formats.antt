@@ -1,6 +1,7 @@
 -- Formats of bits, as a small language: what a format reads at a bit, how it writes a value, and which values it can write.
-use Rattle.std.specs.Prelude.{◌≡◌, ℕ, zero, suc, ◌+◌, ◌-◌, ◌%◌, ◌^◌, ◌<◌, ◌≤◌, Bool, true, false, cond, ◌&&◌, List, [], ◌∷◌, ◌++◌, reverse, length, take, replicate, Ok, Err, MatchBool, Result, MatchResult, nat_le}
+use Rattle.std.specs.Prelude.{◌≡◌, ℕ, zero, suc, ◌+◌, ◌-◌, ◌%◌, ◌^◌, ◌<◌, ◌≤◌, Bool, true, false, cond, ◌&&◌, List, [], ◌∷◌, ◌++◌, reverse, length, take, Ok, Err, MatchBool, Result, MatchResult, nat_le}
 use Rattle.std.specs.List.{flat_map, AllByRecursion}
+use Rattle.fixed.specs.Lists.{padded}
 use Rattle.bits.specs.Bits.{all_bits, bits_of, number, piece}
 use Rattle.bits.specs.declared.reader.Reader.{Reader}
 use Rattle.format.specs.declared.fault.FieldFault.{FieldFault}
@@ -104,10 +105,6 @@ Sound (part {A = A} {B = B} f get rest) =
 Sound (either b f g) = (b ≡ true → Sound f) × (b ≡ false → Sound g)
 Sound (inside wrap f) = Sound f
 Sound (many n wrap f) = Sound f
-
--- a list with blanks behind it, n elements in all
-unfoldable pub padded : {A : Type 0} → ℕ → A → List A → List A
-padded n blank xs = xs ++ replicate (n - length xs) blank
 
 -- r is a table of so many places, filled with n values that are read where a reader stands, which stands behind them afterwards
 abbrev pub Fills : {A : Type 0} → ℕ → A → ℕ → Format FieldFault A → Reader → Result (List A) FieldFault → Reader → Type 0

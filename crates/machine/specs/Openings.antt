@@ -1,6 +1,6 @@
 -- Openings of a certified session: two lists of values, as long as the items of their houses.
 use Rattle.std.specs.Prelude.{◌≡◌, ℕ, ◌^◌, ◌<◌, List, length, ◌==◌, slice_index}
-use Rattle.format.specs.Formats.{padded}
+use Rattle.fixed.specs.Lists.{padded}
 use Rattle.refusal.specs.Judging.{Judgement, accepted, ◌⨟◌, check}
 use Rattle.refusal.specs.declared.Side.{Side}
 use Rattle.refusal.specs.declared.Side.TheVariants.{Near, Far}

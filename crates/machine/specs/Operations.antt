@@ -1,14 +1,9 @@
--- The operations of assignments: their numbers, what they read, and what they give.
-use Rattle.std.specs.Prelude.{ℕ, ◌+◌, ◌-◌, ◌%◌, ◌^◌, min, max, cond, List, [], ◌∷◌, Some, None, Option, ◌==◌}
+-- The operations of assignments: what they read, and what they give.
+use Rattle.std.specs.Prelude.{ℕ, ◌+◌, ◌-◌, ◌%◌, ◌^◌, min, max, List, [], ◌∷◌, Some, None, Option}
+use Rattle.script.specs.Operations.{operation_of}
 use Rattle.script.specs.declared.line.Assignment.{Assignment}
-use Rattle.machine.specs.declared.operation.Operation.{Operation}
-use Rattle.machine.specs.declared.operation.Operation.TheVariants.{Put, Copy, Sum, Difference, Smaller, Larger}
-
--- the numbers: 0 put a constant, 1 copy, 2 sum, 3 difference, 4 the smaller, 5 the larger
-abbrev pub operation_of : ℕ → Option Operation
-operation_of n =
-    cond (n == 0) (Some Put) (cond (n == 1) (Some Copy) (cond (n == 2) (Some Sum) (cond (n == 3) (Some Difference)
-    (cond (n == 4) (Some Smaller) (cond (n == 5) (Some Larger) None)))))
+use Rattle.script.specs.declared.operation.Operation.{Operation}
+use Rattle.script.specs.declared.operation.Operation.TheVariants.{Put, Copy, Sum, Difference, Smaller, Larger}
 
 -- the operands that an operation has, of two that it may have
 abbrev pub taken_by : Option Operation → ℕ → ℕ → List ℕ

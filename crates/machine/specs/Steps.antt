@@ -13,8 +13,9 @@ use Rattle.agreement.specs.declared.item.Item.{Item}
 use Rattle.agreement.specs.declared.item.Role.{Role}
 use Rattle.agreement.specs.declared.item.Role.TheVariants.{Working, Import, Export}
 use Rattle.script.specs.Lines.{blank}
+use Rattle.script.specs.Operations.{operation_of}
 use Rattle.script.specs.declared.line.Assignment.{Assignment}
-use Rattle.machine.specs.Operations.{operation_of, operands, result_at}
+use Rattle.machine.specs.Operations.{operands, result_at}
 use Rattle.machine.specs.Places.{Place, place, Write}
 use Rattle.machine.specs.declared.fault.StepFault.{StepFault}
 use Rattle.machine.specs.declared.fault.StepFault.TheVariants.{Unsuitable, TooManyAssignments, UnknownOperation, NotAllowed, UnknownLabel}

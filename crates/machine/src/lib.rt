@@ -11,7 +11,8 @@ mod staging;
 mod values;
 
 pub use fault::{CallFault, LineFault, RunFault, StepFault};
-pub use operation::{Operation, result_of};
+pub use operation::result_of;
+pub use script::Operation;
 pub use script_type::ScriptType;
 pub use stage::Stage;
 pub use staging::{at_stage, may_judge};

@@ -1,12 +1,11 @@
 -- The formats of assignments, lines and scripts are sound. Assumes nothing.
-use Rattle.std.proofs.Common.{◌≡◌, ℕ, zero, suc, ◌<◌, ◌≤◌, Bool, true, false, eqb, ltb, List, length, take, MatchBool, sym, refl, ap, ◌∙◌, arith}
+use Rattle.std.proofs.Common.{◌≡◌, ℕ, zero, suc, ◌<◌, ◌≤◌, Bool, true, false, eqb, ltb, List, MatchBool, refl, ap, ◌∙◌, arith}
 use Rattle.std.proofs.lemmas.Bool.{ltb-true, ltb-false}
-use Rattle.format.specs.Formats.{Sound, padded}
+use Rattle.format.specs.Formats.{Sound}
 use Rattle.format.proofs.Loops.{take_padded}
-use Rattle.script.specs.Lines.{batch, blank, kind_of, compute, copy, target_of, source_of, batch_of, meant}
+use Rattle.script.specs.Lines.{Batch, batch, blank, kind_of, compute, copy, target_of, source_of, batch_of, meant}
 use Rattle.script.specs.Scripts.{assignment, assignments, line, script}
 use Rattle.script.specs.declared.line.Assignment.{Assignment}
-use Rattle.script.specs.declared.line.Batch.{Batch}
 
 -- what follows either way
 when_both : (b : Bool) (P Q R : Type 0) → MatchBool b P Q → (b ≡ true → P → R) → (b ≡ false → Q → R) → R
@@ -37,15 +36,15 @@ assignment_sound = (
 )
 
 -- the assignments that a batch was made of
-pub meant_batch : (n : ℕ) (xs : List Assignment) → length xs ≡ n → meant (batch n xs) ≡ xs
-meant_batch n xs e = ap (λ (k : ℕ). take k (padded 8 blank xs)) (sym e) ∙ take_padded 8 blank xs
+pub meant_batch : (xs : List Assignment) → meant (batch xs) ≡ xs
+meant_batch xs = take_padded 8 blank xs
 
 pub assignments_sound : Sound assignments
 unfolding assignments
 assignments_sound = (
   (omega arith, omega arith),
-  (λ n _. (assignment_sound, (λ xs _. tt), λ xs b w e. ap meant e ∙ meant_batch n xs w.0)),
-  (λ n b _ w. ap (λ (y : Batch). y.count) w.1),
+  (λ n _. (assignment_sound, (λ xs _. tt), λ xs b w e. ap meant e ∙ meant_batch xs)),
+  (λ n b _ w. ap (λ (y : Batch). y.count) w.1 ∙ w.0.0),
 )
 
 kind_compute : (k : ℕ) (b : Batch) → k < 2 → kind_of (compute k b) ≡ k

@@ -1,2 +1,4 @@
+pub mod Operations
 pub mod Lines
 pub mod Scripts
+pub mod Kinds

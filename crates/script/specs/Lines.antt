@@ -1,9 +1,9 @@
 -- Lines by their kinds, and the assignments of a compute.
-use Rattle.std.specs.Prelude.{ℕ, cond, List, [], take, ◌==◌}
-use Rattle.format.specs.Formats.{padded}
+use Rattle.std.specs.Prelude.{ℕ, cond, List, [], ◌==◌}
+use Rattle.fixed.specs.Lists.{list_of, filled}
+use Rattle.fixed.specs.declared.list.FixedList.{FixedList}
 use Rattle.refusal.specs.declared.Side.TheVariants.{Near, Far}
 use Rattle.script.specs.declared.line.Assignment.{Assignment}
-use Rattle.script.specs.declared.line.Batch.{Batch}
 use Rattle.script.specs.declared.line.Line.{Line}
 use Rattle.script.specs.declared.line.Line.TheVariants.{Compute, Fetch, Store, Outward, Inward}
 
@@ -13,9 +13,13 @@ assigned operation target constant left right = record { operation = operation; 
 abbrev pub blank : Assignment
 blank = assigned 0 0 0 0 0
 
--- n assignments, with blanks behind them
-abbrev pub batch : ℕ → List Assignment → Batch
-batch n xs = record { count = n; assignments = padded 8 blank xs }
+-- up to 8 assignments
+abbrev pub Batch : Type 0
+Batch = FixedList Assignment 8
+
+-- assignments, with blanks behind them
+abbrev pub batch : List Assignment → Batch
+batch xs = filled 8 blank xs
 
 -- the kinds: 0 compute near, 1 compute far, 2 fetch near, 3 fetch far, 4 store near, 5 store far, 6 outward, 7 inward
 abbrev pub kind_of : Line → ℕ
@@ -52,7 +56,7 @@ source_of (Outward t s) = s
 source_of (Inward t s) = s
 
 abbrev pub no_batch : Batch
-no_batch = batch 0 []
+no_batch = batch []
 
 abbrev pub batch_of : Line → Batch
 batch_of (Compute s b) = b
@@ -63,4 +67,4 @@ batch_of (Inward t s) = no_batch
 
 -- the assignments that are meant
 abbrev pub meant : Batch → List Assignment
-meant b = take b.count b.assignments
+meant b = list_of b

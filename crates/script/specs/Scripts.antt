@@ -4,10 +4,9 @@ use Rattle.bits.specs.Bits.{all_bits, piece}
 use Rattle.bits.specs.declared.reader.Reader.{Reader}
 use Rattle.format.specs.Formats.{Format, done, field, part, either, inside, many, read}
 use Rattle.format.specs.declared.fault.FieldFault.{FieldFault}
-use Rattle.script.specs.Lines.{assigned, batch, kind_of, compute, copy, target_of, source_of, batch_of, meant}
+use Rattle.script.specs.Lines.{assigned, Batch, batch, kind_of, compute, copy, target_of, source_of, batch_of, meant}
 use Rattle.script.specs.declared.fault.ScriptFault.{ScriptFault}
 use Rattle.script.specs.declared.line.Assignment.{Assignment}
-use Rattle.script.specs.declared.line.Batch.{Batch}
 use Rattle.script.specs.declared.line.Line.{Line}
 
 -- 7 bits: the number of an item
@@ -28,7 +27,7 @@ assignment =
 unfoldable pub assignments : Format FieldFault Batch
 assignments =
     part (field 4 0 8) (λ b. b.count) (λ n.
-    part (many n (λ i e. e) assignment) meant (λ xs. done (batch n xs)))
+    part (many n (λ i e. e) assignment) meant (λ xs. done (batch xs)))
 
 -- 3 bits kind; then the assignments of a compute, or 7 bits target and 7 bits source
 unfoldable pub line : Format FieldFault Line

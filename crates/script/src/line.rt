@@ -1,6 +1,4 @@
-ghost use Rattle.std.specs.Prelude.{◌≡◌};
-ghost use Rattle.script.specs.Lines.{meant};
-
+use fixed::FixedList;
 use refusal::Side;
 
 // One assignment of a compute: a number that stands for its operation, its target, and what the operation takes.
@@ -24,28 +22,12 @@ impl Assignment {
     };
 }
 
-// Up to 8 assignments in a row: the first `count` of the table, with blanks behind them.
-#[derive(Clone, Copy)]
-pub struct Batch {
-    pub count: u64,
-    pub assignments: [Assignment; 8],
-}
-
-impl Batch {
-    // The assignments that are meant.
-    pub fn as_slice(&self) -> &[Assignment]
-        ensures { result.now ≡ meant self.now }
-    {
-        &self.assignments[0..self.count.min(8) as usize]
-    }
-}
-
 // A line of a script.
 #[derive(Clone, Copy)]
 pub enum Line {
     Compute {
         side: Side,
-        batch: Batch,
+        assignments: FixedList<Assignment, 8>,
     },
     Fetch {
         side: Side,

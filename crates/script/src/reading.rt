@@ -1,54 +1,61 @@
 ghost use Rattle.std.specs.Prelude.{◌≡◌, ◌≤◌, IfOk, OnErr, OnOk};
 ghost use Rattle.bits.specs.Bits.{all_bits};
 ghost use Rattle.format.specs.Formats.{Reads, Fills, field as count_field, inside};
-ghost use Rattle.script.specs.Lines.{blank, copy};
-ghost use Rattle.script.specs.Scripts.{assignment as assignment_format, assignments as batch_format, line as line_format, on_line, Passes, PassesLines, OnlyTheseBits};
+ghost use Rattle.script.specs.Lines.{blank};
+ghost use Rattle.script.specs.Scripts.{item_field, assignment as assignment_format, assignments as assignments_format, line as line_format, on_line, Passes, PassesLines, OnlyTheseBits};
+ghost use Rattle.script.specs.Kinds.{ReadsKind};
 
 use crate::fault::ScriptFault;
-use crate::line::{Assignment, Batch, Line};
+use crate::line::{Assignment, Line};
+use crate::operation::Operation;
 use bits::Reader;
+use fixed::FixedList;
 use format::{FieldFault, field};
 use refusal::Side;
 
+// 7 bits: the number of an item.
+fn item(reader: &mut Reader<'_>) -> Result<u64, FieldFault>
+    ensures value { Reads item_field reader.old result reader.new }
+    ensures bytes { reader.new.bytes ≡ reader.old.bytes }
+{
+    field(reader, 7, 0, 127)
+}
+
 // 3 bits operation, 7 bits target, and a constant or one or two operands.
+#[tactic(auto, unfolding(crate::specs::Scripts::assignment))]
 fn assignment(reader: &mut Reader<'_>) -> Result<Assignment, FieldFault>
     ensures value { Reads assignment_format reader.old result reader.new }
     ensures bytes { reader.new.bytes ≡ reader.old.bytes }
 {
     let operation = field(reader, 3, 0, 5)?;
-    let target = field(reader, 7, 0, 127)?;
-    if operation == 0 {
-        let constant = field(reader, 64, 0, u64::MAX)?;
-        return Ok(Assignment {
-            operation,
-            target,
-            constant,
-            left: 0,
-            right: 0,
-        });
-    }
-    let left = field(reader, 7, 0, 127)?;
-    if operation == 1 {
-        return Ok(Assignment {
-            operation,
-            target,
-            constant: 0,
-            left,
-            right: 0,
-        });
-    }
-    let right = field(reader, 7, 0, 127)?;
-    Ok(Assignment {
+    let target = item(reader)?;
+    let begun = Assignment {
         operation,
         target,
-        constant: 0,
-        left,
-        right,
-    })
+        ..Assignment::BLANK
+    };
+    match Operation::try_from(operation) {
+        Ok(Operation::Put) => Ok(Assignment {
+            constant: field(reader, 64, 0, u64::MAX)?,
+            ..begun
+        }),
+        Ok(Operation::Copy) => Ok(Assignment {
+            left: item(reader)?,
+            ..begun
+        }),
+        Ok(Operation::Sum | Operation::Difference | Operation::Smaller | Operation::Larger) => {
+            Ok(Assignment {
+                left: item(reader)?,
+                right: item(reader)?,
+                ..begun
+            })
+        }
+        Err(_) => unreachable!(),
+    }
 }
 
 // So many assignments, with blanks behind them.
-fn assignments(reader: &mut Reader<'_>, count: u64) -> Result<[Assignment; 8], FieldFault>
+fn so_many_assignments(reader: &mut Reader<'_>, count: u64) -> Result<[Assignment; 8], FieldFault>
     requires { count ≤ 8 }
     ensures value { Fills 8 blank count assignment_format reader.old result reader.new }
     ensures bytes { reader.new.bytes ≡ reader.old.bytes }
@@ -61,59 +68,74 @@ fn assignments(reader: &mut Reader<'_>, count: u64) -> Result<[Assignment; 8], F
 }
 
 // 4 bits count, then the assignments.
-fn batch(reader: &mut Reader<'_>) -> Result<Batch, FieldFault>
-    ensures value { Reads batch_format reader.old result reader.new }
+#[tactic(auto, unfolding(crate::specs::Scripts::assignments))]
+fn assignments(reader: &mut Reader<'_>) -> Result<FixedList<Assignment, 8>, FieldFault>
+    ensures value { Reads assignments_format reader.old result reader.new }
     ensures bytes { reader.new.bytes ≡ reader.old.bytes }
 {
     let count = field(reader, 4, 0, 8)?;
-    let assignments = assignments(reader, count)?;
-    Ok(Batch { count, assignments })
+    let places = so_many_assignments(reader, count)?;
+    Ok(FixedList { count, places })
 }
 
-// A line of kind 2 to 7.
-fn copying(kind: u64, target: u64, source: u64) -> Line
-    ensures { result ≡ copy kind target source }
+// What a line does, and in which house.
+#[derive(Clone, Copy)]
+enum LineKind {
+    Compute(Side),
+    Fetch(Side),
+    Store(Side),
+    Outward,
+    Inward,
+}
+
+// 3 bits: the kind of a line.
+fn kind(reader: &mut Reader<'_>) -> Result<LineKind, FieldFault>
+    ensures value { ReadsKind reader.old result reader.new }
+    ensures bytes { reader.new.bytes ≡ reader.old.bytes }
 {
-    match kind {
-        2 => Line::Fetch {
-            side: Side::Near,
-            target,
-            source,
-        },
-        3 => Line::Fetch {
-            side: Side::Far,
-            target,
-            source,
-        },
-        4 => Line::Store {
-            side: Side::Near,
-            target,
-            source,
-        },
-        5 => Line::Store {
-            side: Side::Far,
-            target,
-            source,
-        },
-        6 => Line::Outward { target, source },
-        _ => Line::Inward { target, source },
-    }
+    Ok(match field(reader, 3, 0, 7)? {
+        0 => LineKind::Compute(Side::Near),
+        1 => LineKind::Compute(Side::Far),
+        2 => LineKind::Fetch(Side::Near),
+        3 => LineKind::Fetch(Side::Far),
+        4 => LineKind::Store(Side::Near),
+        5 => LineKind::Store(Side::Far),
+        6 => LineKind::Outward,
+        7 => LineKind::Inward,
+        _ => unreachable!(),
+    })
 }
 
-// 3 bits kind; then the batch of a compute, or a target and a source.
+// The kind; then the assignments of a compute, or a target and a source.
+#[tactic(auto, unfolding(crate::specs::Scripts::line))]
 fn line(reader: &mut Reader<'_>) -> Result<Line, FieldFault>
     ensures value { Reads line_format reader.old result reader.new }
     ensures bytes { reader.new.bytes ≡ reader.old.bytes }
 {
-    let kind = field(reader, 3, 0, 7)?;
-    if kind < 2 {
-        let side = if kind == 0 { Side::Near } else { Side::Far };
-        let batch = batch(reader)?;
-        return Ok(Line::Compute { side, batch });
-    }
-    let target = field(reader, 7, 0, 127)?;
-    let source = field(reader, 7, 0, 127)?;
-    Ok(copying(kind, target, source))
+    Ok(match kind(reader)? {
+        LineKind::Compute(side) => Line::Compute {
+            side,
+            assignments: assignments(reader)?,
+        },
+        LineKind::Fetch(side) => Line::Fetch {
+            side,
+            target: item(reader)?,
+            source: item(reader)?,
+        },
+        LineKind::Store(side) => Line::Store {
+            side,
+            target: item(reader)?,
+            source: item(reader)?,
+        },
+        LineKind::Outward => Line::Outward {
+            target: item(reader)?,
+            source: item(reader)?,
+        },
+        LineKind::Inward => Line::Inward {
+            target: item(reader)?,
+            source: item(reader)?,
+        },
+    })
 }
 
 // The next line, whose fault is told its number. A line that cannot be read leaves the reader where it was.
@@ -122,13 +144,10 @@ pub fn numbered_line(reader: &mut Reader<'_>, number: u64) -> Result<Line, Scrip
     ensures bytes { reader.new.bytes ≡ reader.old.bytes }
     ensures stays { OnErr result (reader.new ≡ reader.old) }
 {
-    match read_line(reader) {
-        Ok(line) => Ok(line),
-        Err(fault) => Err(ScriptFault {
-            line: number,
-            fault,
-        }),
-    }
+    read_line(reader).map_err(|fault| ScriptFault {
+        line: number,
+        fault,
+    })
 }
 
 // 8 bits: how many lines there are. Where they lack the reader stays where it was.
@@ -138,10 +157,7 @@ pub fn line_count(reader: &mut Reader<'_>) -> Result<u64, ScriptFault>
     ensures bytes { reader.new.bytes ≡ reader.old.bytes }
     ensures stays { OnErr result (reader.new ≡ reader.old) }
 {
-    match field(reader, 8, 0, 255) {
-        Ok(count) => Ok(count),
-        Err(fault) => Err(ScriptFault { line: 0, fault }),
-    }
+    field(reader, 8, 0, 255).map_err(|fault| ScriptFault { line: 0, fault })
 }
 
 // So many lines, one at a time.
@@ -172,30 +188,23 @@ pub fn read_line(reader: &mut Reader<'_>) -> Result<Line, FieldFault>
     ensures bytes { reader.new.bytes ≡ reader.old.bytes }
     ensures stays { OnErr result (reader.new ≡ reader.old) }
 {
-    let before = *reader;
-    match line(reader) {
-        Ok(line) => Ok(line),
-        Err(fault) => {
-            *reader = before;
-            Err(fault)
-        }
-    }
+    let mut ahead = *reader;
+    let line = line(&mut ahead)?;
+    *reader = ahead;
+    Ok(line)
 }
 
 // Goes through all lines of a script, and answers how many there are. A script that cannot be read leaves the reader
 // where it was.
+#[tactic(auto, using(crate::proofs::Passing::only_these_bits))]
 pub fn read_script(reader: &mut Reader<'_>) -> Result<u64, ScriptFault>
     ensures value { Passes reader.old result reader.new }
     ensures bytes { reader.new.bytes ≡ reader.old.bytes }
     ensures stays { OnErr result (reader.new ≡ reader.old) }
     ensures only { OnOk result (OnlyTheseBits (all_bits reader.old.bytes.now) reader.old.at reader.new.at) }
 {
-    let start = *reader;
-    match script(reader) {
-        Ok(count) => Ok(count),
-        Err(fault) => {
-            *reader = start;
-            Err(fault)
-        }
-    }
+    let mut ahead = *reader;
+    let count = script(&mut ahead)?;
+    *reader = ahead;
+    Ok(count)
 }

@@ -1,7 +1,7 @@
 -- A list copied to the front of a table. Assumes nothing.
 use Rattle.std.proofs.Common.{◌≡◌, ℕ, ◌+◌, ◌<◌, List, [], ◌∷◌, ◌++◌, length, get_or, take, drop, set, replicate, sym, ap, ◌∙◌, arith}
 use Rattle.std.proofs.lemmas.List.{append_assoc, drop_more, drop-replicate, length-take-le, set_at, take_more}
-use Rattle.format.specs.Formats.{padded}
+use Rattle.fixed.specs.Lists.{padded}
 
 module _ {A : Type 0} where
   -- one element more was copied

@@ -1,6 +1,6 @@
 -- The record of a session: what it holds of an agreement, and what everyone knows of it.
 use Rattle.std.specs.Prelude.{ℕ, List, [], length, take, replicate}
-use Rattle.format.specs.Formats.{padded}
+use Rattle.fixed.specs.Lists.{padded}
 use Rattle.refusal.specs.Judging.{Judgement, ◌⨟◌, under}
 use Rattle.order.specs.Orders.{PartialOrder}
 use Rattle.agreement.specs.Agreements.{Joint, joint}

@@ -1,6 +1,7 @@
 -- A listed house is read as its number of rows and its rows. Assumes nothing.
 use Rattle.std.proofs.Common.{◌≡◌, ℕ, ◌+◌, Bool, List, Ok, sym, ap, ◌∙◌}
-use Rattle.format.specs.Formats.{Reading, followed, field, many, turned, read, padded}
+use Rattle.fixed.specs.Lists.{padded}
+use Rattle.format.specs.Formats.{Reading, followed, field, many, turned, read}
 use Rattle.format.specs.declared.fault.FieldFault.{FieldFault}
 use Rattle.house.specs.declared.description.House.TheVariants.{Listed}
 use Rattle.sheet.specs.Parts.{listed_house}

@@ -3,7 +3,8 @@ use Rattle.std.proofs.Common.{◌≡◌, ℕ, ◌+◌, ◌≤◌, Bool, true, fa
 use Rattle.std.proofs.lemmas.Bool.{eqb-true, eqb-false}
 use Rattle.agreement.specs.Rules.{no_item}
 use Rattle.agreement.specs.declared.item.Item.{Item}
-use Rattle.format.specs.Formats.{Sound, Writes, padded}
+use Rattle.fixed.specs.Lists.{padded}
+use Rattle.format.specs.Formats.{Sound, Writes}
 use Rattle.format.proofs.Loops.{take_padded}
 use Rattle.script.proofs.Sound.{script_sound}
 use Rattle.script.specs.declared.line.Line.{Line}

@@ -1,6 +1,6 @@
 -- The parts of a sheet, and the lists that their tables stand for.
 use Rattle.std.specs.Prelude.{ℕ, ◌-◌, List, [], take}
-use Rattle.format.specs.Formats.{padded}
+use Rattle.fixed.specs.Lists.{padded}
 use Rattle.agreement.specs.declared.item.Item.{Item}
 use Rattle.agreement.specs.Rules.{no_item}
 use Rattle.house.specs.declared.description.House.{House}

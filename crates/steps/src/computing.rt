@@ -20,7 +20,7 @@ fn operations_known(side: Side, assignments: &[Assignment]) -> Result<(), StepFa
     ensures { result ≡ each_from (operation_judged side assignments.now) 0 (length assignments.now) }
 {
     for (place, assignment) in assignments.iter().enumerate() {
-        if Operation::of(assignment.operation).is_none() {
+        if Operation::try_from(assignment.operation).is_err() {
             return Err(StepFault::UnknownOperation {
                 side,
                 place: place as u64,
@@ -46,10 +46,10 @@ fn working(side: Side, items: &[Item], assignment: &Assignment) -> Result<(), St
 {
     let needed = Some(Role::Working);
     suitable(side, items, assignment.target, needed)?;
-    match Operation::of(assignment.operation) {
-        None | Some(Operation::Put) => Ok(()),
-        Some(Operation::Copy) => suitable(side, items, assignment.left, needed),
-        Some(Operation::Sum | Operation::Difference | Operation::Smaller | Operation::Larger) => {
+    match Operation::try_from(assignment.operation) {
+        Err(_) | Ok(Operation::Put) => Ok(()),
+        Ok(Operation::Copy) => suitable(side, items, assignment.left, needed),
+        Ok(Operation::Sum | Operation::Difference | Operation::Smaller | Operation::Larger) => {
             suitable(side, items, assignment.left, needed)?;
             suitable(side, items, assignment.right, needed)
         }
@@ -69,10 +69,10 @@ fn all_working(side: Side, items: &[Item], assignments: &[Assignment]) -> Result
 fn operands_flow<O: Order>(order: &O, items: &[Item], assignment: &Assignment, label: u64) -> bool
     ensures { result ≡ all_flow (O.Order.meaning order.now) items.now (operands assignment.now) label }
 {
-    match Operation::of(assignment.operation) {
-        None | Some(Operation::Put) => true,
-        Some(Operation::Copy) => order.flows(label_of(items, assignment.left), label),
-        Some(Operation::Sum | Operation::Difference | Operation::Smaller | Operation::Larger) => {
+    match Operation::try_from(assignment.operation) {
+        Err(_) | Ok(Operation::Put) => true,
+        Ok(Operation::Copy) => order.flows(label_of(items, assignment.left), label),
+        Ok(Operation::Sum | Operation::Difference | Operation::Smaller | Operation::Larger) => {
             order.flows(label_of(items, assignment.left), label)
                 && order.flows(label_of(items, assignment.right), label)
         }

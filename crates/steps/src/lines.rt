@@ -94,8 +94,8 @@ pub(crate) fn judge_line<N: Order, F: Order>(
     ensures { result ≡ step_judged (agreed (N.Order.meaning near.now) (F.Order.meaning far.now) agreement.now) (line_step line.now) }
 {
     match line {
-        Line::Compute { side, batch } => {
-            judge_compute(near, far, agreement, *side, batch.as_slice())
+        Line::Compute { side, assignments } => {
+            judge_compute(near, far, agreement, *side, assignments.as_slice())
         }
         Line::Fetch {
             side,
@@ -120,7 +120,7 @@ pub(crate) fn do_line(values: &mut Values, line: &Line)
     ensures { values.new ≡ all_written values.old (step_writes (line_step line.now)) }
 {
     match line {
-        Line::Compute { side, batch } => assign_all(values, *side, batch.as_slice()),
+        Line::Compute { side, assignments } => assign_all(values, *side, assignments.as_slice()),
         Line::Fetch {
             side,
             target,

@@ -123,8 +123,8 @@ pub(crate) fn lowered_by_line<N: Lattice, F: Lattice>(
     ensures { LowersBoth (agreed (N.Order.meaning near.now) (F.Order.meaning far.now) agreement.now) (line_step line.now) lowest result }
 {
     match line {
-        Line::Compute { side, batch } => {
-            lowered_by_compute(near, far, agreement, lowest, *side, batch.as_slice())
+        Line::Compute { side, assignments } => {
+            lowered_by_compute(near, far, agreement, lowest, *side, assignments.as_slice())
         }
         Line::Fetch {
             side,

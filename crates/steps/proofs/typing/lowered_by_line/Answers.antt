@@ -9,4 +9,4 @@ pub returns-in-Compute : goal.returns-in-Compute
 returns-in-Compute g c =
     let J = agreed (g.N.Order.meaning c.args.near.now) (g.F.Order.meaning c.args.far.now) c.args.agreement.now in
     subst (λ (x : Step). LowersBoth J x c.args.lowest c.lowered_by_compute.result)
-    (ap (compute c.in-Compute.side) c.as_slice.ensures ∙ ap line_step (sym c.in-Compute.is)) c.lowered_by_compute.ensures
+    (ap (compute c.in-Compute.side) c.as_slice.ensures.elements ∙ ap line_step (sym c.in-Compute.is)) c.lowered_by_compute.ensures

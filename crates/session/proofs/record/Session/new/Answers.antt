@@ -1,5 +1,5 @@
 use Rattle.std.proofs.Common.{refl}
-use Rattle.format.specs.Formats.{padded}
+use Rattle.fixed.specs.Lists.{padded}
 use Rattle.session.proofs.record.Session.new.Goals as goal
 
 pub returns : goal.returns
