@@ -61,8 +61,8 @@ impl CallFault {
             CallFault::WrongStage { stage, needed } => Refusal {
                 number: 12,
                 side: None,
-                p: u128::from(stage.number()),
-                q: needed.number(),
+                p: u128::from(u64::from(stage)),
+                q: u64::from(needed),
             },
             CallFault::Agreement(fault) => fault.refusal(),
             CallFault::Values { side, needed } => Refusal {

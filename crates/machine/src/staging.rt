@@ -8,7 +8,7 @@ use crate::stage::Stage;
 pub fn at_stage(stage: Stage, needed: Stage) -> Result<(), CallFault>
     ensures { result ≡ stage_judged stage needed }
 {
-    if stage.number() == needed.number() {
+    if stage == needed {
         Ok(())
     } else {
         Err(CallFault::WrongStage { stage, needed })

@@ -1,4 +1,4 @@
-ghost use Rattle.std.specs.Prelude.{◌≡◌, slice_index, slice_set};
+ghost use Rattle.std.specs.Prelude.{◌≡◌, slice_set};
 ghost use Rattle.machine.specs.Places.{place, held, put};
 
 use refusal::Side;
@@ -23,10 +23,11 @@ impl Values {
     pub fn get(&self, side: Side, item: u64) -> u64
         ensures { result ≡ held self.now (place side item) }
     {
-        match side {
-            Side::Near => value_at(&self.near, item),
-            Side::Far => value_at(&self.far, item),
-        }
+        let values = match side {
+            Side::Near => &self.near,
+            Side::Far => &self.far,
+        };
+        values.get(item as usize).copied().unwrap_or(0)
     }
 
     // Writes into the item; past the last there is nothing to write to.
@@ -40,16 +41,7 @@ impl Values {
     }
 }
 
-fn value_at(values: &[u64; MOST_ITEMS], item: u64) -> u64
-    ensures { result ≡ slice_index values.now item }
-{
-    if item < MOST_ITEMS as u64 {
-        values[item as usize]
-    } else {
-        0
-    }
-}
-
+// By a test, since a slice's `get_mut` tells a proof nothing of the elements: tried, the proof does not close.
 fn set_value(values: &mut [u64; MOST_ITEMS], item: u64, value: u64)
     ensures { values.new ≡ slice_set values.old item value }
 {
