@@ -8,6 +8,7 @@ use Rattle.agreement.specs.Faults.{fault_refusal}
 use Rattle.agreement.specs.Roles.{role_number}
 use Rattle.machine.specs.declared.fault.CallFault.{CallFault}
 use Rattle.machine.specs.declared.fault.CallFault.TheVariants.{WrongStage, Agreement, Values, Step, Script}
+use Rattle.machine.specs.declared.fault.LineFault.{LineFault}
 use Rattle.machine.specs.declared.fault.RunFault.{RunFault}
 use Rattle.machine.specs.declared.fault.RunFault.TheVariants.{Unreadable, Line}
 use Rattle.machine.specs.declared.fault.StepFault.{StepFault}
@@ -33,9 +34,12 @@ step_refusal (UnknownOperation s place operation) = numbered 15 (Some s) place o
 step_refusal (NotAllowed s target source) = numbered 16 s target source
 step_refusal (UnknownLabel s label) = numbered 17 (Some s) label 0
 
+abbrev pub line_refused : LineFault → Refused
+line_refused e = at_line e.line (step_refusal e.fault)
+
 abbrev pub run_refused : RunFault → Refused
 run_refused (Unreadable e) = at_line e.line (field_refusal e.fault)
-run_refused (Line e) = at_line e.line (step_refusal e.fault)
+run_refused (Line e) = line_refused e
 
 abbrev pub call_refused : CallFault → Refused
 call_refused (WrongStage stage needed) = at_line 0 (numbered 12 None (stage_number stage) (stage_number needed))

@@ -1,15 +1,14 @@
 ghost use Rattle.std.specs.Prelude.{◌≡◌};
-ghost use Rattle.agreement.specs.Roles.{role_number};
-ghost use Rattle.machine.specs.Faults.{step_refusal, run_refused, call_refused};
+ghost use Rattle.machine.specs.Faults.{step_refusal, line_refused, run_refused, call_refused};
 
-use crate::fault::{CallFault, RunFault, StepFault};
+use crate::fault::{CallFault, LineFault, RunFault, StepFault};
 use refusal::{Refusal, Refused};
 
-impl StepFault {
-    pub fn refusal(&self) -> Refusal
-        ensures { result ≡ step_refusal self.now }
-    {
-        let (number, side, p, q) = match *self {
+impl From<StepFault> for Refusal {
+    ghost from_gives = { λ fault r. r ≡ step_refusal fault };
+
+    fn from(fault: StepFault) -> Refusal {
+        let (number, side, p, q) = match fault {
             StepFault::Unsuitable { side, item, role } => {
                 (14, Some(side), item, agreement::role_number(role))
             }
@@ -35,29 +34,37 @@ impl StepFault {
     }
 }
 
-impl RunFault {
-    pub fn refused(&self) -> Refused
-        ensures { result ≡ run_refused self.now }
-    {
-        match *self {
-            RunFault::Unreadable(fault) => Refused {
-                line: fault.line,
-                refusal: fault.refusal(),
-            },
-            RunFault::Line(fault) => Refused {
-                line: fault.line,
-                refusal: fault.fault.refusal(),
-            },
+impl From<LineFault> for Refused {
+    ghost from_gives = { λ fault r. r ≡ line_refused fault };
+
+    fn from(fault: LineFault) -> Refused {
+        Refused {
+            line: fault.line,
+            refusal: Refusal::from(fault.fault),
         }
     }
 }
 
-impl CallFault {
-    // What the call is refused with, and the line that it is in.
-    pub fn refused(&self) -> Refused
-        ensures { result ≡ call_refused self.now }
-    {
-        let refusal = match *self {
+impl From<RunFault> for Refused {
+    ghost from_gives = { λ fault r. r ≡ run_refused fault };
+
+    fn from(fault: RunFault) -> Refused {
+        match fault {
+            RunFault::Unreadable(fault) => Refused {
+                line: fault.line,
+                refusal: fault.refusal(),
+            },
+            RunFault::Line(fault) => Refused::from(fault),
+        }
+    }
+}
+
+// What a call is refused with, and the line that it is in.
+impl From<CallFault> for Refused {
+    ghost from_gives = { λ fault r. r ≡ call_refused fault };
+
+    fn from(fault: CallFault) -> Refused {
+        let refusal = match fault {
             CallFault::WrongStage { stage, needed } => Refusal {
                 number: 12,
                 side: None,
@@ -71,9 +78,9 @@ impl CallFault {
                 p: u128::from(needed),
                 q: 0,
             },
-            CallFault::Step(fault) => fault.refusal(),
-            CallFault::Script(fault) => return fault.refused(),
+            CallFault::Step(fault) => Refusal::from(fault),
+            CallFault::Script(fault) => return Refused::from(fault),
         };
-        Refused { line: 0, refusal }
+        Refused::from(refusal)
     }
 }

@@ -6,6 +6,7 @@ use agreement::{Agreement, Item};
 use anyhow::anyhow;
 use machine::CallFault;
 use order::Lattice;
+use refusal::Refused;
 use session::{DraftPass, Returned, Session};
 use tables::Graded;
 
@@ -50,7 +51,7 @@ fn passed<P: Drop, Q: Drop>(
             Ok(pass)
         }
         Err(returned) => {
-            rt.println(returned.fault.refused())?;
+            rt.println(Refused::from(returned.fault))?;
             Err(anyhow!("{call}"))
         }
     }
@@ -59,7 +60,7 @@ fn passed<P: Drop, Q: Drop>(
 fn moved(rt: &HostRuntime, answer: Result<(), CallFault>) -> anyhow::Result<()> {
     match answer {
         Ok(()) => println!(rt; "moved outward")?,
-        Err(fault) => rt.println(fault.refused())?,
+        Err(fault) => rt.println(Refused::from(fault))?,
     }
     Ok(())
 }

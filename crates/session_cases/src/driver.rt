@@ -2,7 +2,7 @@
 use agreement::Agreement;
 use machine::{CallFault, ScriptType};
 use order::Lattice;
-use refusal::Side;
+use refusal::{Refused, Side};
 use script::Assignment;
 use session::{CertifiedPass, OpenPass, Returned, Session};
 use std::process::Abort;
@@ -31,7 +31,7 @@ pub enum Answer {
 }
 
 pub fn refuse(fault: CallFault) -> Answer {
-    let refused = fault.refused();
+    let refused = Refused::from(fault);
     let refusal = refused.refusal;
     Answer::Refuse(
         refusal.number,

@@ -1,10 +1,12 @@
 -- Greatest lower labels of lists that grow at the end. Assumes nothing.
-use Rattle.std.proofs.Common.{◌≡◌, ℕ, ◌<◌, List, [], ◌∷◌, ◌++◌, Some, None, Option, sym, subst}
+use Rattle.std.proofs.Common.{◌≡◌, ℕ, ◌<◌, List, [], ◌∷◌, ◌++◌, Some, None, Option, MatchOption, sym, ap, subst}
 use Rattle.std.proofs.lemmas.List.{append-nil, append_assoc}
 use Rattle.std.proofs.lemmas.Option.{MatchOption-at_some, MatchOption-at_none}
 use Rattle.order.specs.Bounds.{Known, Joined, Supremum}
 use Rattle.order.specs.Orders.{PartialOrder, dual}
+use Rattle.order.proofs.Searches.{supremum_is}
 use Rattle.order.proofs.Suprema.{supremum_push}
+use Rattle.machine.specs.Types.{or_zero, or_top}
 use Rattle.steps.specs.Folds.{Lowers}
 
 known_front : (P : PartialOrder) (xs : List ℕ) (y : ℕ) → Known P (xs ++ y ∷ []) → Known P xs
@@ -35,3 +37,8 @@ module _ (P : PartialOrder) where
 
   pub lowers_then : (xs ys : List ℕ) (a b c : Option ℕ) → Lowers P xs a b → Lowers P ys b c → Lowers P (xs ++ ys) a c
   lowers_then xs ys a b c f g ls j = subst (λ (l : List ℕ). Joined (dual P) l c) (append_assoc ls xs ys) (g (ls ++ xs) (f ls j))
+
+  -- a bound, and where it is absent the top
+  pub or_top_is : (bound : Option ℕ) {top : ℕ} → MatchOption bound (Supremum (dual P) [] top) (λ c. top ≡ c) → top ≡ or_top P bound
+  or_top_is None {top} s = ap or_zero (supremum_is (dual P) [] (Some top) s)
+  or_top_is (Some c) e = e

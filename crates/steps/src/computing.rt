@@ -1,12 +1,13 @@
-ghost use Rattle.std.specs.Prelude.{◌≡◌, ◌<◌, ◌∷◌, length};
+ghost use Rattle.std.specs.Prelude.{◌≡◌, ◌∷◌, get_or, length};
 ghost use Rattle.refusal.specs.Judging.{each_from};
 ghost use Rattle.agreement.specs.Agreements.{agreed};
+ghost use Rattle.script.specs.Lines.{blank};
 ghost use Rattle.machine.specs.Calls.{after, step};
 ghost use Rattle.machine.specs.Operations.{operands};
 ghost use Rattle.machine.specs.Places.{all_written, written};
-ghost use Rattle.machine.specs.Steps.{all_flow, all_working, assignment_write, compute as compute_step, compute_judged, flows_judged, form_judged, operation_judged, roles_judged, step_judged, step_writes, target_judged};
+ghost use Rattle.machine.specs.Steps.{all_flow, all_working, assignment_write, label_of, compute as compute_step, compute_judged, flows_judged, form_judged, operation_judged, roles_judged, step_judged, step_writes, target_judged};
 
-use crate::items::{label_of, suitable};
+use crate::items::{check, label_of, suitable};
 use agreement::{Agreement, Item, Role};
 use machine::{Operation, StepFault, Values, result_of};
 use order::Order;
@@ -34,9 +35,10 @@ fn operations_known(side: Side, assignments: &[Assignment]) -> Result<(), StepFa
 fn well_formed(side: Side, assignments: &[Assignment]) -> Result<(), StepFault>
     ensures { result ≡ form_judged side assignments.now }
 {
-    if assignments.len() > MOST_ASSIGNMENTS {
-        return Err(StepFault::TooManyAssignments { side });
-    }
+    check(
+        assignments.len() <= MOST_ASSIGNMENTS,
+        StepFault::TooManyAssignments { side },
+    )?;
     operations_known(side, assignments)
 }
 
@@ -59,8 +61,8 @@ fn working(side: Side, items: &[Item], assignment: &Assignment) -> Result<(), St
 fn all_working(side: Side, items: &[Item], assignments: &[Assignment]) -> Result<(), StepFault>
     ensures { result ≡ roles_judged side items.now assignments.now }
 {
-    for place in 0..assignments.len() {
-        working(side, items, &assignments[place])?;
+    for (_place, assignment) in assignments.iter().enumerate() {
+        working(side, items, assignment)?;
     }
     Ok(())
 }
@@ -86,11 +88,11 @@ fn all_flow_to<O: Order>(
     items: &[Item],
     assignments: &[Assignment],
     target: usize,
+    label: u64,
 ) -> Result<(), StepFault>
-    requires { target < length assignments.now }
+    requires { label ≡ label_of items.now (get_or assignments.now target blank).target }
     ensures { result ≡ target_judged (O.Order.meaning order.now) side items.now assignments.now target }
 {
-    let label = label_of(items, assignments[target].target);
     for (place, assignment) in assignments.iter().enumerate() {
         if !operands_flow(order, items, assignment, label) {
             return Err(StepFault::NotAllowed {
@@ -112,8 +114,9 @@ fn flows_allowed<O: Order>(
 ) -> Result<(), StepFault>
     ensures { result ≡ flows_judged (O.Order.meaning order.now) side items.now assignments.now }
 {
-    for target in 0..assignments.len() {
-        all_flow_to(order, side, items, assignments, target)?;
+    for (target, assignment) in assignments.iter().enumerate() {
+        let label = label_of(items, assignment.target);
+        all_flow_to(order, side, items, assignments, target, label)?;
     }
     Ok(())
 }
@@ -159,8 +162,8 @@ fn assign(values: &mut Values, side: Side, assignment: &Assignment)
 pub(crate) fn assign_all(values: &mut Values, side: Side, assignments: &[Assignment])
     ensures { values.new ≡ all_written values.old (step_writes (compute_step side assignments.now)) }
 {
-    for place in 0..assignments.len() {
-        assign(values, side, &assignments[place]);
+    for (_place, assignment) in assignments.iter().enumerate() {
+        assign(values, side, assignment);
     }
 }
 

@@ -2,7 +2,7 @@ ghost use Rattle.std.specs.Prelude.{◌≡◌};
 ghost use Rattle.machine.specs.Places.{place, written};
 ghost use Rattle.machine.specs.Steps.{copy_judged, copy_write, move_judged};
 
-use crate::items::{label_of, suitable};
+use crate::items::{check, label_of, suitable};
 use agreement::{Item, Role, move_allowed};
 use machine::{StepFault, Values};
 use order::Order;
@@ -22,15 +22,14 @@ pub(crate) fn judge_copy<O: Order>(
 {
     suitable(side, items, target, Some(to))?;
     suitable(side, items, source, Some(from))?;
-    if order.flows(label_of(items, source), label_of(items, target)) {
-        Ok(())
-    } else {
-        Err(StepFault::NotAllowed {
+    check(
+        order.flows(label_of(items, source), label_of(items, target)),
+        StepFault::NotAllowed {
             side: Some(side),
             target,
             source,
-        })
-    }
+        },
+    )
 }
 
 // A copy from an export of the house of a side to an import of the other house.
@@ -48,21 +47,16 @@ pub(crate) fn judge_move<P: Order, Q: Order>(
 {
     suitable(side.other(), targets, target, Some(Role::Import))?;
     suitable(side, sources, source, Some(Role::Export))?;
-    if move_allowed(
-        from,
-        to,
-        map,
-        label_of(sources, source),
-        label_of(targets, target),
-    ) {
-        Ok(())
-    } else {
-        Err(StepFault::NotAllowed {
+    let given = label_of(sources, source);
+    let wanted = label_of(targets, target);
+    check(
+        move_allowed(from, to, map, given, wanted),
+        StepFault::NotAllowed {
             side: None,
             target,
             source,
-        })
-    }
+        },
+    )
 }
 
 pub(crate) fn copy(values: &mut Values, to: Side, target: u64, from: Side, source: u64)

@@ -1,26 +1,30 @@
 ghost use Rattle.std.specs.Prelude.{◌≡◌};
+ghost use Rattle.refusal.specs.Judging.{check};
 ghost use Rattle.machine.specs.Steps.{item_judged, label_of, serves};
 
 use agreement::{Item, Role, role_number};
 use machine::StepFault;
 use refusal::Side;
 
+// Refuses with the fault unless the test holds.
+pub(crate) fn check(holds: bool, fault: StepFault) -> Result<(), StepFault>
+    ensures { result ≡ check holds fault }
+{
+    if holds { Ok(()) } else { Err(fault) }
+}
+
 // The label of an item, 0 for an unknown one.
 pub(crate) fn label_of(items: &[Item], item: u64) -> u64
     ensures { result ≡ label_of items.now item }
 {
-    let at = item as usize;
-    if at < items.len() { items[at].label } else { 0 }
+    items.get(item as usize).map_or(0, |item| item.label)
 }
 
 // Whether a role is the one that is needed.
 fn serves(needed: Option<Role>, role: u64) -> bool
     ensures { result ≡ serves needed role }
 {
-    match needed {
-        Some(_) => role == role_number(needed),
-        None => true,
-    }
+    needed.is_none_or(|needed| role == role_number(Some(needed)))
 }
 
 // Whether there is such an item, with the role that is needed.
@@ -32,10 +36,9 @@ pub(crate) fn suitable(
 ) -> Result<(), StepFault>
     ensures { result ≡ item_judged side items.now item role }
 {
-    let at = item as usize;
-    if at < items.len() && serves(role, items[at].role) {
-        Ok(())
-    } else {
-        Err(StepFault::Unsuitable { side, item, role })
-    }
+    let found = items.get(item as usize);
+    check(
+        found.is_some_and(|found| serves(role, found.role)),
+        StepFault::Unsuitable { side, item, role },
+    )
 }

@@ -30,13 +30,11 @@ fn judge_next<N: Lattice, F: Lattice>(
     ensures { JudgesNext (agreed (N.Order.meaning near.now) (F.Order.meaning far.now) agreement.now) judged number line.now result }
 {
     let lowest = judged?;
-    match judge_line(near, far, agreement, line) {
-        Ok(()) => Ok(lowered_by_line(near, far, agreement, lowest, line)),
-        Err(fault) => Err(LineFault {
-            line: number,
-            fault,
-        }),
-    }
+    judge_line(near, far, agreement, line).map_err(|fault| LineFault {
+        line: number,
+        fault,
+    })?;
+    Ok(lowered_by_line(near, far, agreement, lowest, line))
 }
 
 // Before the first line no label was given.

@@ -4,7 +4,7 @@ ghost use Rattle.machine.specs.Calls.{if_accepted};
 ghost use Rattle.machine.specs.Places.{held, place};
 ghost use Rattle.machine.specs.Steps.{show_judged};
 
-use crate::items::{label_of, suitable};
+use crate::items::{check, label_of, suitable};
 use agreement::{Agreement, Item};
 use machine::{StepFault, Values};
 use order::Order;
@@ -19,19 +19,19 @@ fn judge_show<O: Order>(
 ) -> Result<(), StepFault>
     ensures { result ≡ show_judged (O.Order.meaning order.now) side items.now label item }
 {
-    if label >= order.count() {
-        return Err(StepFault::UnknownLabel { side, label });
-    }
+    check(
+        label < order.count(),
+        StepFault::UnknownLabel { side, label },
+    )?;
     suitable(side, items, item, None)?;
-    if order.flows(label_of(items, item), label) {
-        Ok(())
-    } else {
-        Err(StepFault::NotAllowed {
+    check(
+        order.flows(label_of(items, item), label),
+        StepFault::NotAllowed {
             side: Some(side),
             target: item,
             source: label,
-        })
-    }
+        },
+    )
 }
 
 // The value of an item, for somebody cleared for a label of its house.

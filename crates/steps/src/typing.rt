@@ -149,8 +149,5 @@ pub(crate) fn lowered_by_line<N: Lattice, F: Lattice>(
 pub(crate) fn type_label<L: Lattice>(lattice: &L, bound: Option<u64>) -> u64
     ensures { result ≡ or_top (L.Order.meaning lattice.now) bound }
 {
-    match bound {
-        Some(label) => label,
-        None => bound_of_none(lattice, Bound::Meet),
-    }
+    bound.unwrap_or_else(|| bound_of_none(lattice, Bound::Meet))
 }

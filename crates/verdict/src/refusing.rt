@@ -24,7 +24,7 @@ impl JudgeFault {
                     ..Refusal::from(fault)
                 },
             },
-            JudgeFault::Call(fault) => fault.refused(),
+            JudgeFault::Call(fault) => Refused::from(fault),
         }
     }
 }

@@ -1,17 +1,10 @@
-use Rattle.std.proofs.Common.{◌≡◌, ℕ, Bool, List, length, get_or, Some, ap, ◌∙◌}
+use Rattle.std.proofs.Common.{length, get_or, Some, ap, ◌∙◌}
 use Rattle.refusal.proofs.Judging.{check_at, left_none, left_more, left_err, left_all}
-use Rattle.order.specs.Orders.{PartialOrder}
-use Rattle.agreement.specs.declared.item.Item.{Item}
 use Rattle.script.specs.Lines.{blank}
-use Rattle.script.specs.declared.line.Assignment.{Assignment}
 use Rattle.machine.specs.Operations.{operands}
 use Rattle.machine.specs.Steps.{all_flow, pair_judged}
 use Rattle.machine.specs.declared.fault.StepFault.TheVariants.{NotAllowed}
 use Rattle.steps.proofs.computing.all_flow_to.Goals as goal
-
--- the test at the label that the code looked up
-at_label : (P : PartialOrder) (xs : List Item) (a : Assignment) {l m : ℕ} {b : Bool} → l ≡ m → b ≡ all_flow P xs (operands a) l → b ≡ all_flow P xs (operands a) m
-at_label P xs a e f = f ∙ ap (all_flow P xs (operands a)) e
 
 pub loop-place-init : goal.loop-place-init
 loop-place-init g c =
@@ -22,13 +15,13 @@ pub loop-place-preserved : goal.loop-place-preserved
 loop-place-preserved g c =
     let k = c.loop-place.place in
     left_more c.loop-place.invariant c.loop-place-test.true
-    (check_at (NotAllowed (Some c.args.side) c.args.target k) (at_label (g.O.Order.meaning c.args.order.now) c.args.items.now (get_or c.args.assignments.now k blank) c.label_of-label.ensures c.if-not-operands_flow.ensures))
+    (check_at (NotAllowed (Some c.args.side) c.args.target k) (c.if-not-operands_flow.ensures ∙ ap (all_flow (g.O.Order.meaning c.args.order.now) c.args.items.now (operands (get_or c.args.assignments.now k blank))) c.requires))
 
 pub returns-then-not-operands_flow : goal.returns-then-not-operands_flow
 returns-then-not-operands_flow g c =
     let k = c.loop-place.place in
     left_err c.loop-place.invariant c.loop-place-test.true
-    (check_at (NotAllowed (Some c.args.side) c.args.target k) (at_label (g.O.Order.meaning c.args.order.now) c.args.items.now (get_or c.args.assignments.now k blank) c.label_of-label.ensures c.if-not-operands_flow.ensures))
+    (check_at (NotAllowed (Some c.args.side) c.args.target k) (c.if-not-operands_flow.ensures ∙ ap (all_flow (g.O.Order.meaning c.args.order.now) c.args.items.now (operands (get_or c.args.assignments.now k blank))) c.requires))
 
 pub returns : goal.returns
 returns g c = left_all c.loop-place.invariant c.loop-place-test.false

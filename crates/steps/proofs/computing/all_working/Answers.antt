@@ -1,4 +1,4 @@
-use Rattle.std.proofs.Common.{length}
+use Rattle.std.proofs.Common.{length, rules, arith}
 use Rattle.refusal.proofs.Judging.{left_none, left_more, left_break, left_all}
 use Rattle.machine.specs.Steps.{assignment_roles}
 use Rattle.steps.proofs.computing.all_working.Goals as goal
@@ -8,7 +8,7 @@ loop-place-init c =
     left_none (assignment_roles c.args.side c.args.items.now c.args.assignments.now) (length c.args.assignments.now)
 
 pub loop-place-preserved : goal.loop-place-preserved
-loop-place-preserved c = left_more c.loop-place.invariant c.loop-place-test.true c.in_ok-working.ensures
+loop-place-preserved c = search (rules, arith, left_more)
 
 pub returns-in_err-working : goal.returns-in_err-working
 returns-in_err-working c =

@@ -5,4 +5,4 @@ use Rattle.steps.proofs.computing.all_working.Given as goal
 
 abbrev pub invariant-loop-place : goal.invariant-loop-place
 invariant-loop-place l =
-    Left (assignment_roles l.side l.items l.assignments) (roles_judged l.side l.items l.assignments) (length l.assignments) l.place
+    Left (assignment_roles l.side l.items l.assignments) (roles_judged l.side l.items l.assignments) (length l.assignments) l._place

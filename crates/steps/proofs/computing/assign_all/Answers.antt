@@ -10,7 +10,7 @@ use Rattle.steps.proofs.computing.assign_all.Goals as goal
 pub loop-place-preserved : goal.loop-place-preserved
 loop-place-preserved c =
     let writes = map (assignment_write c.args.side) in
-    let i = c.loop-place.place in
+    let i = c.loop-place._place in
     let xs = c.args.assignments.now in
     ap (λ (v : Values). all_written v (writes (drop (i + 1) xs))) c.assign.ensures
     ∙ sym (at_drop_more (λ (l : List Assignment). all_written c.loop-place.values (writes l)) xs i blank c.loop-place-test.true)
@@ -19,4 +19,4 @@ loop-place-preserved c =
 pub returns : goal.returns
 returns c =
     sym (at_drop_all (λ (l : List Assignment). all_written c.loop-place.values (map (assignment_write c.args.side) l))
-    c.args.assignments.now c.loop-place.place c.loop-place-test.false) ∙ c.loop-place.invariant
+    c.args.assignments.now c.loop-place._place c.loop-place-test.false) ∙ c.loop-place.invariant
