@@ -2,3 +2,4 @@ pub mod Judging
 pub mod Fitting
 pub mod Deciding
 pub mod Accepting
+pub mod Ranges

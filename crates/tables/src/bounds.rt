@@ -3,78 +3,79 @@ ghost use Rattle.order.specs.Bounds.{toward};
 ghost use Rattle.tables.specs.Bounded.{upper, least_in, bounded_in, better, lacking, bounded_at, bounds_judged, each_after, Candidate};
 
 use crate::fault::TableFault;
-use order::{Bound, Order, flows_toward};
+use order::{Bound, Order, Reversed};
 
-// Whether labels a and b flow to this one.
-fn is_upper<O: Order>(order: &O, which: Bound, a: u64, b: u64, label: u64) -> bool
-    ensures { result ≡ upper (toward which (O.Order.meaning order.now)).flow a b label }
-{
-    flows_toward(order, which, a, label) && flows_toward(order, which, b, label)
+// Two labels of an order, whose least upper label is asked for. Their greatest lower one is that of the reversed order.
+#[derive(Clone, Copy)]
+pub(crate) struct Pair<O> {
+    pub(crate) order: O,
+    pub(crate) a: u64,
+    pub(crate) b: u64,
 }
 
-// Whether a and b flow to the label, and it flows to the best so far, if there is one.
-fn is_better<O: Order>(
-    order: &O,
-    which: Bound,
-    a: u64,
-    b: u64,
-    label: u64,
-    best: Option<u64>,
-) -> bool
-    ensures { result ≡ better (toward which (O.Order.meaning order.now)).flow a b label best }
-{
-    match best {
-        None => is_upper(order, which, a, b, label),
-        Some(best) => is_upper(order, which, a, b, label)
-            && flows_toward(order, which, label, best),
+impl<O: Order> Pair<O> {
+    // Whether both labels flow to this one.
+    fn is_upper(&self, label: u64) -> bool
+        ensures { result ≡ upper (O.Order.meaning self.now.order).flow self.now.a self.now.b label }
+    {
+        self.order.flows(self.a, label) && self.order.flows(self.b, label)
     }
-}
 
-// The one label that can be the bound of a and b, by one pass over the labels.
-pub(crate) fn candidate<O: Order>(order: &O, which: Bound, a: u64, b: u64) -> Option<u64>
-    ensures { Candidate (toward which (O.Order.meaning order.now)) (a ∷ b ∷ []) result }
-{
-    let mut best = None;
-    for label in 0..order.count() {
-        if is_better(order, which, a, b, label, best) {
-            best = Some(label);
+    // Whether both flow to the label, and it flows to the best so far, if there is one.
+    fn is_better(&self, label: u64, best: Option<u64>) -> bool
+        ensures { result ≡ better (O.Order.meaning self.now.order).flow self.now.a self.now.b label best }
+    {
+        self.is_upper(label) && best.is_none_or(|best| self.order.flows(label, best))
+    }
+
+    // The one label that can be their least upper one, by one pass over the labels.
+    pub(crate) fn candidate(&self) -> Option<u64>
+        ensures { Candidate (O.Order.meaning self.now.order) (self.now.a ∷ self.now.b ∷ []) result }
+    {
+        let mut best = None;
+        for label in 0..self.order.count() {
+            if self.is_better(label, best) {
+                best = Some(label);
+            }
         }
+        best
     }
-    best
-}
 
-// Whether the label flows to the other, if a and b flow to the other.
-fn is_under<O: Order>(order: &O, which: Bound, a: u64, b: u64, label: u64, other: u64) -> bool
-    ensures { result ≡ (not (upper (toward which (O.Order.meaning order.now)).flow a b other) || (toward which (O.Order.meaning order.now)).flow label other) }
-{
-    !is_upper(order, which, a, b, other) || flows_toward(order, which, label, other)
-}
+    // Whether the label flows to the other, if both labels flow to the other.
+    fn is_under(&self, label: u64, other: u64) -> bool
+        ensures { result ≡ (not (upper (O.Order.meaning self.now.order).flow self.now.a self.now.b other) || (O.Order.meaning self.now.order).flow label other) }
+    {
+        !self.is_upper(other) || self.order.flows(label, other)
+    }
 
-// Whether the label flows to every label that a and b flow to.
-fn is_least<O: Order>(order: &O, which: Bound, a: u64, b: u64, label: u64) -> bool
-    ensures { result ≡ least_in (toward which (O.Order.meaning order.now)) a b label }
-{
-    for other in 0..order.count() {
-        if !is_under(order, which, a, b, label, other) {
-            return false;
+    // Whether the label flows to every label that both flow to.
+    fn is_least(&self, label: u64) -> bool
+        ensures { result ≡ least_in (O.Order.meaning self.now.order) self.now.a self.now.b label }
+    {
+        (0..self.order.count()).all(|other| self.is_under(label, other))
+    }
+
+    // Whether they have a least upper label. If one flows to the other, that is it.
+    fn has_bound(&self) -> bool
+        ensures { result ≡ bounded_in (O.Order.meaning self.now.order) self.now.a self.now.b }
+    {
+        if self.order.flows(self.a, self.b) || self.order.flows(self.b, self.a) {
+            return true;
         }
+        self.candidate().is_some_and(|label| self.is_least(label))
     }
-    true
 }
 
-// Whether labels a and b have the bound. If one flows to the other, that is their bound.
+// Whether labels a and b have the bound.
 fn has_bound<O: Order>(order: &O, which: Bound, a: u64, b: u64) -> bool
     ensures { result ≡ bounded_in (toward which (O.Order.meaning order.now)) a b }
 {
-    if flows_toward(order, which, a, b) {
-        return true;
-    }
-    if flows_toward(order, which, b, a) {
-        return true;
-    }
-    match candidate(order, which, a, b) {
-        None => false,
-        Some(label) => is_least(order, which, a, b, label),
+    match which {
+        Bound::Join => Pair { order, a, b }.has_bound(),
+        Bound::Meet => {
+            let order = Reversed { inner: order };
+            Pair { order, a, b }.has_bound()
+        }
     }
 }
 

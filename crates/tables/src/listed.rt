@@ -4,10 +4,10 @@ ghost use Rattle.tables.specs.contracts.ordered.OrderedOrder.TheImpl.{ghosts as 
 ghost use Rattle.tables.specs.Listed.{rows_judged, LatticeRows, Holds};
 ghost use Rattle.tables.specs.Lattices.{lattice_of};
 
-use crate::bounds::{candidate, judge_bounds};
+use crate::bounds::{Pair, judge_bounds};
 use crate::fault::TableFault;
 use crate::ordered::Ordered;
-use order::{Bound, Lattice, Order};
+use order::{Bound, Lattice, Order, Reversed};
 
 // A lattice of labels, given by its rows: label a flows to label b where bit b of row a is 1.
 #[derive(Clone, Copy)]
@@ -68,10 +68,12 @@ impl Lattice for Listed {
     ghost bounds = { λ s. lattice_of (ordered.meaning s.table) s.lattice };
 
     fn join(&self, a: u64, b: u64) -> Option<u64> {
-        candidate(&self.table, Bound::Join, a, b)
+        let order = &self.table;
+        Pair { order, a, b }.candidate()
     }
 
     fn meet(&self, a: u64, b: u64) -> Option<u64> {
-        candidate(&self.table, Bound::Meet, a, b)
+        let order = Reversed { inner: &self.table };
+        Pair { order, a, b }.candidate()
     }
 }
