@@ -22,12 +22,12 @@ pub enum Broken {
     Unlawful { item: u64, label: u64 },
 }
 
-impl Broken {
-    // What is refused where no side is told.
-    pub fn refusal(&self) -> Refusal
-        ensures { result ≡ broken_refusal self.now }
-    {
-        let (number, p, q) = match *self {
+// What is refused where no side is told.
+impl From<Broken> for Refusal {
+    ghost from_gives = { λ broken refusal. refusal ≡ broken_refusal broken };
+
+    fn from(broken: Broken) -> Refusal {
+        let (number, p, q) = match broken {
             Broken::Length => (7, 64, 0),
             Broken::Entry { label, entry } => (7, u128::from(label), entry),
             Broken::NotMonotone { a, b } => (8, u128::from(a), b),
@@ -52,13 +52,14 @@ pub struct Fault {
     pub broken: Broken,
 }
 
-impl Fault {
-    pub fn refusal(&self) -> Refusal
-        ensures { result ≡ fault_refusal self.now }
-    {
+// What is refused, with its side.
+impl From<Fault> for Refusal {
+    ghost from_gives = { λ fault refusal. refusal ≡ fault_refusal fault };
+
+    fn from(fault: Fault) -> Refusal {
         Refusal {
-            side: Some(self.side),
-            ..self.broken.refusal()
+            side: Some(fault.side),
+            ..Refusal::from(fault.broken)
         }
     }
 }

@@ -14,7 +14,7 @@ mod views;
 pub use certification::{Agreement, certify};
 pub use fault::{Broken, Fault};
 pub use free::{image, lawful, monotone, move_allowed, rising, round_trip, settled, stable, total};
-pub use item::{Item, Role, role_number};
+pub use item::{Item, Role, UnknownRole, role_number};
 pub use joined::Joined;
 pub use map::LabelMap;
 pub use trip::RoundTrip;

@@ -4,7 +4,7 @@ ghost use Rattle.agreement.specs.Connection.{SettledAreImages};
 ghost use Rattle.agreement.specs.Rules.{rises, rising_judged, stays, stable_judged, lawful_item, items_judged};
 
 use crate::fault::Broken;
-use crate::item::{Item, Role};
+use crate::item::{Item, Role, UnknownRole};
 use crate::map::LabelMap;
 use order::Order;
 
@@ -99,10 +99,10 @@ impl<'a, P: Order + Copy, Q: Order + Copy> RoundTrip<'a, P, Q> {
     fn lawful_item(&self, item: Item) -> bool
         ensures { result ≡ lawful_item (P.Order.meaning self.now.from) (Q.Order.meaning self.now.to) self.now.out.now self.now.back.now item }
     {
-        match Role::of(item.role) {
-            Some(Role::Working) => item.label < self.from.count(),
-            Some(Role::Import | Role::Export) => self.settled(item.label),
-            None => false,
+        match Role::try_from(item.role) {
+            Ok(Role::Working) => item.label < self.from.count(),
+            Ok(Role::Import | Role::Export) => self.settled(item.label),
+            Err(UnknownRole(_)) => false,
         }
     }
 

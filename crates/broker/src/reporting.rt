@@ -1,29 +1,32 @@
 // What there is to say about an agreement, one fact to a line.
-use agreement::{Agreement, Broken, Fault, Role, certify, items_in_view, round_trip, settled};
+use agreement::{Broken, Fault, Joined, Role};
+use either::Either;
 use order::Order;
-use refusal::Side;
+use refusal::{Refusal, Side};
 
-fn map_lines(rt: &HostRuntime, side: Side, map: &[u64]) -> anyhow::Result<()> {
-    let own = side.word();
-    let across = side.other().word();
-    for (label, image) in map.iter().enumerate() {
+const SIDES: [Side; 2] = [Side::Near, Side::Far];
+
+fn map_lines<N: Order, F: Order>(
+    rt: &HostRuntime,
+    joined: &Joined<'_, N, F>,
+    own: Side,
+) -> anyhow::Result<()> {
+    let across = own.other();
+    for (label, image) in joined.map(own).iter().enumerate() {
         println!(rt; "{own} label {label} goes to {across} label {image}")?;
     }
     Ok(())
 }
 
 // Which labels of one house are settled.
-fn settled_lines<P: Order, Q: Order>(
+fn settled_lines<N: Order, F: Order>(
     rt: &HostRuntime,
-    side: Side,
-    from: &P,
-    to: &Q,
-    map: &[u64],
-    back: &[u64],
+    joined: &Joined<'_, N, F>,
+    own: Side,
 ) -> anyhow::Result<()> {
-    let own = side.word();
-    for label in 0..from.count() {
-        if settled(from, to, map, back, label) {
+    let trip = joined.trip(own);
+    for label in 0..trip.from.count() {
+        if trip.settled(label) {
             println!(rt; "{own} label {label} is settled: across and back it is itself again")?;
         } else {
             println!(rt; "{own} label {label} is not settled")?;
@@ -35,33 +38,23 @@ fn settled_lines<P: Order, Q: Order>(
 // The items of one house in the view of a label.
 fn item_lines<N: Order, F: Order>(
     rt: &HostRuntime,
-    near: &N,
-    far: &F,
-    agreement: &Agreement<'_>,
-    side: Side,
+    joined: &Joined<'_, N, F>,
+    reader: Side,
     label: u64,
     house: Side,
 ) -> anyhow::Result<()> {
-    let reader = side.word();
-    let word = house.word();
-    let items = match house {
-        Side::Near => agreement.near_items,
-        Side::Far => agreement.far_items,
-    };
-    let Some(numbers) = items_in_view(rt.alloc(), near, far, agreement, side, label, house)? else {
+    let items = joined.items(house);
+    let Some(numbers) = joined.items_in_view(rt.alloc(), reader, label, house)? else {
         return Ok(());
     };
-    for number in numbers.iter() {
+    for number in &numbers {
         let Some(item) = items.get(*number as usize) else {
             continue;
         };
-        let role = match Role::of(item.role) {
-            Some(role) => role.word(),
-            None => "unknown",
-        };
+        let role = Either::from(Role::try_from(item.role));
         let at = item.label;
         println!(rt;
-            "somebody cleared for {reader} label {label} may come to depend on {word} item {number}, {role}, label {at}"
+            "somebody cleared for {reader} label {label} may come to depend on {house} item {number}, {role}, label {at}"
         )?;
     }
     Ok(())
@@ -70,49 +63,42 @@ fn item_lines<N: Order, F: Order>(
 // For each label of one house, the items that somebody cleared for it may come to depend on.
 fn view_lines<N: Order, F: Order>(
     rt: &HostRuntime,
-    near: &N,
-    far: &F,
-    agreement: &Agreement<'_>,
-    side: Side,
-    labels: u64,
+    joined: &Joined<'_, N, F>,
+    reader: Side,
 ) -> anyhow::Result<()> {
-    for label in 0..labels {
-        item_lines(rt, near, far, agreement, side, label, Side::Near)?;
-        item_lines(rt, near, far, agreement, side, label, Side::Far)?;
+    for label in 0..joined.house(reader).count() {
+        for house in SIDES {
+            item_lines(rt, joined, reader, label, house)?;
+        }
     }
     Ok(())
 }
 
-fn accepted<N: Order, F: Order>(
-    rt: &HostRuntime,
-    near: &N,
-    far: &F,
-    agreement: &Agreement<'_>,
-) -> anyhow::Result<()> {
+fn accepted<N: Order, F: Order>(rt: &HostRuntime, joined: &Joined<'_, N, F>) -> anyhow::Result<()> {
     println!(rt; "accepted")?;
-    settled_lines(rt, Side::Near, near, far, agreement.out, agreement.back)?;
-    settled_lines(rt, Side::Far, far, near, agreement.back, agreement.out)?;
-    view_lines(rt, near, far, agreement, Side::Near, near.count())?;
-    view_lines(rt, near, far, agreement, Side::Far, far.count())
+    for side in SIDES {
+        settled_lines(rt, joined, side)?;
+    }
+    for side in SIDES {
+        view_lines(rt, joined, side)?;
+    }
+    Ok(())
 }
 
 // How a label climbs when it goes across and back again and again.
-fn climb_lines<P: Order, Q: Order>(
+fn climb_lines<N: Order, F: Order>(
     rt: &HostRuntime,
-    side: Side,
-    from: &P,
-    to: &Q,
-    map: &[u64],
-    back: &[u64],
+    joined: &Joined<'_, N, F>,
+    house: Side,
     start: u64,
 ) -> anyhow::Result<()> {
-    let house = side.word();
+    let trip = joined.trip(house);
     let mut label = start;
-    for trip in 1..=from.count() {
-        let Some(next) = round_trip(from, to, map, back, label) else {
+    for round in 1..=trip.from.count() {
+        let Some(next) = trip.again(label) else {
             break;
         };
-        println!(rt; "round trip {trip} takes {house} label {label} to {next}")?;
+        println!(rt; "round trip {round} takes {house} label {label} to {next}")?;
         label = next;
     }
     Ok(())
@@ -120,54 +106,29 @@ fn climb_lines<P: Order, Q: Order>(
 
 fn refused<N: Order, F: Order>(
     rt: &HostRuntime,
-    near: &N,
-    far: &F,
-    agreement: &Agreement<'_>,
+    joined: &Joined<'_, N, F>,
     fault: Fault,
 ) -> anyhow::Result<()> {
-    let refusal = fault.refusal();
-    let number = refusal.number;
-    let house = fault.side.word();
-    let p = refusal.p;
-    let q = refusal.q;
+    let house = fault.side;
+    let Refusal { number, p, q, .. } = Refusal::from(fault);
     println!(rt; "refused: number {number}, side {house}, p {p}, q {q}")?;
-    let Broken::Drifts { label } = fault.broken else {
-        return Ok(());
-    };
-    println!(rt; "{house} label {label} has another image once it has gone across and back")?;
-    match fault.side {
-        Side::Near => climb_lines(
-            rt,
-            Side::Near,
-            near,
-            far,
-            agreement.out,
-            agreement.back,
-            label,
-        ),
-        Side::Far => climb_lines(
-            rt,
-            Side::Far,
-            far,
-            near,
-            agreement.back,
-            agreement.out,
-            label,
-        ),
+    if let Broken::Drifts { label } = fault.broken {
+        println!(rt; "{house} label {label} has another image once it has gone across and back")?;
+        climb_lines(rt, joined, house, label)?;
     }
+    Ok(())
 }
 
 // The maps, the verdict, and what follows from it.
 pub(crate) fn report<N: Order, F: Order>(
     rt: &HostRuntime,
-    near: &N,
-    far: &F,
-    agreement: &Agreement<'_>,
+    joined: &Joined<'_, N, F>,
 ) -> anyhow::Result<()> {
-    map_lines(rt, Side::Near, agreement.out)?;
-    map_lines(rt, Side::Far, agreement.back)?;
-    match certify(near, far, agreement) {
-        Ok(()) => accepted(rt, near, far, agreement),
-        Err(fault) => refused(rt, near, far, agreement, fault),
+    for side in SIDES {
+        map_lines(rt, joined, side)?;
+    }
+    match joined.certify() {
+        Ok(()) => accepted(rt, joined),
+        Err(fault) => refused(rt, joined, fault),
     }
 }

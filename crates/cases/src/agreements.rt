@@ -435,10 +435,7 @@ fn chain(labels: u64) -> Result<Graded, Fail> {
 }
 
 fn refused<N: Order, F: Order>(near: &N, far: &F, agreement: &Agreement<'_>) -> Option<Refusal> {
-    match certify(near, far, agreement) {
-        Ok(()) => None,
-        Err(fault) => Some(fault.refusal()),
-    }
+    certify(near, far, agreement).err().map(Refusal::from)
 }
 
 #[test]

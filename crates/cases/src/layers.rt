@@ -1,6 +1,7 @@
 // Bounds at listed and graded lattices, and at layers piled on them: one text for all.
-use agreement::{Agreement, certify};
+use agreement::{Agreement, Joined};
 use order::{Bound, Lattice, Order, Reversed, bound_of, flows_reversed_twice};
+use refusal::Refusal;
 use std::process::Abort;
 use std::test::Fail;
 use tables::{Graded, Listed};
@@ -63,10 +64,13 @@ fn refused_number<N: Order, F: Order>(near: &N, far: &F) -> Option<u8> {
         near_items: &[],
         far_items: &[],
     };
-    match certify(near, far, &agreement) {
-        Ok(()) => None,
-        Err(fault) => Some(fault.refusal().number),
-    }
+    let joined = Joined {
+        near,
+        far,
+        agreement,
+    };
+    let fault = joined.certify().err()?;
+    Some(Refusal::from(fault).number)
 }
 
 // All to label 0 falls in chains that flow upward, and is a connection where both are turned round.

@@ -71,7 +71,7 @@ impl From<CallFault> for Refused {
                 p: u128::from(u64::from(stage)),
                 q: u64::from(needed),
             },
-            CallFault::Agreement(fault) => fault.refusal(),
+            CallFault::Agreement(fault) => Refusal::from(fault),
             CallFault::Values { side, needed } => Refusal {
                 number: 13,
                 side: Some(side),

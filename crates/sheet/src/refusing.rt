@@ -40,7 +40,7 @@ impl SheetFault {
                     ..Refusal::from(fault)
                 },
             ),
-            SheetFault::Agreement(fault) => (0, fault.refusal()),
+            SheetFault::Agreement(fault) => (0, Refusal::from(fault)),
         };
         Verdict { line, refusal }
     }

@@ -1,6 +1,7 @@
 // The items in views, one to a line: house, item, role and label.
 use crate::words::usage;
 use agreement::{Item, Role};
+use either::Either;
 use refusal::Side;
 use verdict::Opened;
 
@@ -12,10 +13,7 @@ fn item_line(
     item: Item,
 ) -> anyhow::Result<()> {
     let house = side.word();
-    let role = match Role::of(item.role) {
-        Some(role) => role.word(),
-        None => "unknown",
-    };
+    let role = Either::from(Role::try_from(item.role));
     let label = item.label;
     println!(rt; "{before}{house} item {number} {role} label {label}")?;
     Ok(())
