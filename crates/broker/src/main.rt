@@ -26,26 +26,33 @@ fn certified(rt: &HostRuntime) -> anyhow::Result<()> {
     println!(rt;
         "agreement 1: near is a chain of 3 labels, far a chain of 2; a label flows to itself and to every higher one"
     )?;
-    let joined = Joined {
-        near: &chain(3)?,
-        far: &chain(2)?,
-        agreement: Agreement {
-            out: &[0, 1, 1],
-            back: &[0, 2],
-            near_items: &[
-                item(Role::Working, 0),
-                item(Role::Working, 1),
-                item(Role::Export, 0),
-                item(Role::Import, 2),
-            ],
-            far_items: &[
-                item(Role::Working, 0),
-                item(Role::Import, 0),
-                item(Role::Export, 1),
-            ],
-        },
+    let near = chain(3)?;
+    let far = chain(2)?;
+    let near_items = [
+        item(Role::Working, 0),
+        item(Role::Working, 1),
+        item(Role::Export, 0),
+        item(Role::Import, 2),
+    ];
+    let far_items = [
+        item(Role::Working, 0),
+        item(Role::Import, 0),
+        item(Role::Export, 1),
+    ];
+    let agreement = Agreement {
+        out: &[0, 1, 1],
+        back: &[0, 2],
+        near_items: &near_items,
+        far_items: &far_items,
     };
-    report(rt, &joined)
+    report(
+        rt,
+        &Joined {
+            near: &near,
+            far: &far,
+            agreement,
+        },
+    )
 }
 
 fn drifting(rt: &HostRuntime) -> anyhow::Result<()> {
