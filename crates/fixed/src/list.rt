@@ -1,4 +1,4 @@
-ghost use Rattle.std.specs.Prelude.{◌≡◌, ◌≤◌, length, take};
+ghost use Rattle.std.specs.Prelude.{◌≡◌, min, length, take};
 ghost use Rattle.fixed.specs.Lists.{filled, list_of};
 
 // A list of at most N elements: the first `count` places of a table. Where a list is made here, blanks stand behind it.
@@ -26,7 +26,7 @@ impl<T: Copy, const N: usize> FixedList<T, N> {
     // The elements.
     pub fn as_slice(&self) -> &[T]
         ensures elements { result.now ≡ list_of self.now }
-        ensures few { length result.now ≤ N }
+        ensures counted { length result.now ≡ min self.now.count N }
     {
         &self.places[..N.min(self.count as usize)]
     }

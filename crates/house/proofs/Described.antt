@@ -23,14 +23,14 @@ module _ (count : ℕ) (rows : List ℕ) (few : count ≤ 32) where
   decides_rows b d = Decides-like b (λ l. (few, l)) (λ h. h.1) d
 
   -- a table that holds the rows means the house
-  pub held_means : length rows ≡ 32 → (t : Table) → Holds (take count rows) t.table.count t.table.rows → Means (listed.meaning t) (Listed count rows)
+  pub held_means : length rows ≡ 32 → (t : Table) → Holds (take count rows) t.table.rows.count t.table.rows.places → Means (listed.meaning t) (Listed count rows)
   held_means enough t h =
       let counted : length (take count rows) ≡ count = omega (arith, length-take count rows) in
       record {
         counted = h.counted ∙ counted;
         flowing = λ a b.
             ap (λ (flow : ℕ → ℕ → Bool). flow a b)
-            (held_flow (take count rows) t.table.count t.table.rows h ∙ ap (λ (n : ℕ). listed_flow n (take count rows)) counted);
+            (held_flow (take count rows) t.table.rows.count t.table.rows.places h ∙ ap (λ (n : ℕ). listed_flow n (take count rows)) counted);
       }
 
 -- what is returned where a fault is passed on

@@ -19,7 +19,7 @@ pub struct Listed {
 impl Listed {
     // The lattice of one label.
     pub fn new() -> Listed
-        ensures { Holds (1 ∷ []) result.table.count result.table.rows }
+        ensures { Holds (1 ∷ []) result.table.rows.count result.table.rows.places }
     {
         Listed {
             table: Ordered::new(),
@@ -29,7 +29,7 @@ impl Listed {
     // Takes these rows in place of its own, if they are 1 to 32 and a lattice; else it stays as it is.
     pub fn write(&mut self, rows: &[u32]) -> Result<(), TableFault>
         ensures answer { result ≡ rows_judged rows.now }
-        ensures place { MatchResult result (λ _. Holds rows.now self.new.table.count self.new.table.rows) (λ _. self.new ≡ self.old) }
+        ensures place { MatchResult result (λ _. Holds rows.now self.new.table.rows.count self.new.table.rows.places) (λ _. self.new ≡ self.old) }
         ensures law { Decides (is_ok result) (LatticeRows rows.now) }
     {
         *self = Listed::try_from(rows)?;
@@ -41,11 +41,11 @@ impl Listed {
 impl TryFrom<&[u32]> for Listed {
     type Error = TableFault;
 
-    ghost try_from_gives = { λ rows r. MatchResult r (λ t. (rows_judged rows.now ≡ Ok tt) × Holds rows.now t.table.count t.table.rows) (λ e. rows_judged rows.now ≡ Err e)
+    ghost try_from_gives = { λ rows r. MatchResult r (λ t. (rows_judged rows.now ≡ Ok tt) × Holds rows.now t.table.rows.count t.table.rows.places) (λ e. rows_judged rows.now ≡ Err e)
         × Decides (is_ok r) (LatticeRows rows.now) };
 
     fn try_from(rows: &[u32]) -> Result<Listed, TableFault> {
-        let table = Ordered::of(rows)?;
+        let table = Ordered::try_from(rows)?;
         judge_bounds(&table, Bound::Join)?;
         judge_bounds(&table, Bound::Meet)?;
         Ok(Listed { table })

@@ -1,42 +1,46 @@
-ghost use Rattle.std.specs.Prelude.{◌≡◌, ◌-◌, ◌<◌, ◌≤◌, ◌++◌, length, replicate};
-ghost use Rattle.tables.specs.Rows.{listed_flow};
+ghost use Rattle.std.specs.Prelude.{◌≡◌, ◌≤◌, length};
+ghost use Rattle.tables.specs.Rows.{rows_flow};
 ghost use Rattle.tables.specs.Listed.{carries};
 
 // The largest number of rows.
 pub(crate) const MAX_ROWS: usize = 32;
 
-// Whether label a flows to label b among the first `count` rows.
-pub(crate) fn flows_in(rows: &[u32], count: u64, a: u64, b: u64) -> bool
-    requires { (count ≤ length rows.now) × (count ≤ 32) }
-    ensures { result ≡ listed_flow count rows.now a b }
-{
-    if a >= count || b >= count {
-        return false;
-    }
-    rows[a as usize] >> b & 1 == 1
+// The rows of a table, lent. Label a flows to label b where bit b of row a is 1.
+#[derive(Clone, Copy)]
+pub(crate) struct Rows<'a> {
+    pub(crate) rows: &'a [u32],
+    ghost few: { length rows.now ≤ 32 },
 }
 
-// Whether label a, if it flows to b, flows to every label that b flows to.
-pub(crate) fn carries_in(rows: &[u32], count: u64, a: u64, b: u64) -> bool
-    requires { (count ≤ length rows.now) × ((count ≤ 32) × ((a < count) × (b < count))) }
-    ensures { result ≡ carries count (listed_flow count rows.now) a b }
-{
-    if !flows_in(rows, count, a, b) {
-        return true;
+impl Rows<'_> {
+    // The number of labels.
+    pub(crate) fn count(&self) -> u64
+        ensures { result ≡ length self.now.rows.now }
+    {
+        self.rows.len() as u64
     }
-    let known = (1u64 << count) - 1;
-    let onward = rows[b as usize] as u64 & known;
-    onward & rows[a as usize] as u64 == onward
-}
 
-// The rows, with zeros behind them.
-pub(crate) fn padded(rows: &[u32]) -> [u32; MAX_ROWS]
-    requires { length rows.now ≤ 32 }
-    ensures { result ≡ rows.now ++ replicate (32 - length rows.now) 0 }
-{
-    let mut table = [0; MAX_ROWS];
-    for (place, row) in rows.iter().enumerate() {
-        table[place] = *row;
+    // Whether label a flows to label b.
+    pub(crate) fn flows(&self, a: u64, b: u64) -> bool
+        ensures { result ≡ rows_flow self.now.rows.now a b }
+    {
+        let count = self.count();
+        if a >= count || b >= count {
+            return false;
+        }
+        self.rows[a as usize] >> b & 1 == 1
     }
-    table
+
+    // Whether label a, if it flows to b, flows to every label that b flows to.
+    #[tactic(auto, using(crate::specs::Rows::flow_known))]
+    pub(crate) fn carries(&self, a: u64, b: u64) -> bool
+        ensures { result ≡ carries (length self.now.rows.now) (rows_flow self.now.rows.now) a b }
+    {
+        if !self.flows(a, b) {
+            return true;
+        }
+        let known = (1u64 << self.count()) - 1;
+        let onward = self.rows[b as usize] as u64 & known;
+        onward & self.rows[a as usize] as u64 == onward
+    }
 }

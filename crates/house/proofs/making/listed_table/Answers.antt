@@ -33,7 +33,7 @@ returns c =
     record {
       answer = (
         judged_rows n rows few ∙ sym (told.answer ∙ ap rows_judged same),
-        held_means n rows few c.told-rows t (subst (λ (part : List ℕ). Holds part t.table.count t.table.rows) same told.place),
+        held_means n rows few c.told-rows t (subst (λ (part : List ℕ). Holds part t.table.rows.count t.table.rows.places) same told.place),
       );
       law = decides_rows n rows few true (subst (λ (part : List ℕ). Decides true (LatticeRows part)) same told.law);
     }

@@ -28,14 +28,14 @@ returns-in_err-judge_bounds c =
     let t = c.in_ok-table.table in
     let held = c.in_ok-table.ensures in
     passed_on c.args.rows.now _ c.in_err-judge_bounds.field-0.0 c.from_residual-in_err-judge_bounds.result c.from_residual-in_err-judge_bounds.ensures.1
-    (judged_on c.args.rows.now t.count t.rows held.1 held.0 (Err c.in_err-judge_bounds.field-0.0) _ c.in_err-judge_bounds.ensures refl)
+    (judged_on c.args.rows.now t.rows.count t.rows.places held.1 held.0 (Err c.in_err-judge_bounds.field-0.0) _ c.in_err-judge_bounds.ensures refl)
 
 pub returns-in_err-judge_bounds-2 : goal.returns-in_err-judge_bounds-2
 returns-in_err-judge_bounds-2 c =
     let t = c.in_ok-table.table in
     let held = c.in_ok-table.ensures in
     passed_on c.args.rows.now _ c.in_err-judge_bounds-2.field-0.0 c.from_residual-in_err-judge_bounds-2.result c.from_residual-in_err-judge_bounds-2.ensures.1
-    (judged_on c.args.rows.now t.count t.rows held.1 held.0 accepted (Err c.in_err-judge_bounds-2.field-0.0) c.in_ok-judge_bounds.ensures c.in_err-judge_bounds-2.ensures)
+    (judged_on c.args.rows.now t.rows.count t.rows.places held.1 held.0 accepted (Err c.in_err-judge_bounds-2.field-0.0) c.in_ok-judge_bounds.ensures c.in_err-judge_bounds-2.ensures)
 
 pub invariant_of-result : goal.invariant_of-result
 invariant_of-result c =
@@ -46,5 +46,5 @@ returns c =
     let rows = c.args.rows.now in
     let t = c.in_ok-table.table in
     let held = c.in_ok-table.ensures in
-    let judged = judged_on rows t.count t.rows held.1 held.0 accepted accepted c.in_ok-judge_bounds.ensures c.in_ok-judge_bounds-2.ensures in
+    let judged = judged_on rows t.rows.count t.rows.places held.1 held.0 accepted accepted c.in_ok-judge_bounds.ensures c.in_ok-judge_bounds-2.ensures in
     ((judged, held.1), decides_fits accepted (sym judged) (lattice_fits rows))
