@@ -1,7 +1,7 @@
 ghost use Rattle.std.specs.Prelude.{◌≡◌};
-ghost use Rattle.machine.specs.Calls.{after_at, answer, answer_at, as_done, as_shown, as_typed, gated, line_step, may_judge, run as a_run, show as a_show, step as a_step};
+ghost use Rattle.machine.specs.Calls.{as_done, as_shown, as_typed, line_step, run as a_run, show as a_show, step as a_step};
 ghost use Rattle.machine.specs.Steps.{compute as a_compute, fetch as a_fetch, store as a_store, outward as an_outward, inward as an_inward};
-ghost use Rattle.session.specs.Records.{known_of};
+ghost use Rattle.session.specs.Records.{after_call, answer_to, judging};
 
 use crate::keeping::lent;
 use crate::pass::OpenPass;
@@ -20,8 +20,8 @@ impl<N: Lattice, F: Lattice> Session<N, F> {
         side: Side,
         assignments: &[Assignment],
     ) -> Result<(), CallFault>
-        ensures answer { as_done result ≡ answer_at self.old.stage (known_of (N.Order.meaning self.old.near) (F.Order.meaning self.old.far) self.old.maps self.old.table.items) self.old.table.values (a_step (a_compute side assignments.now)) }
-        ensures record { self.new ≡ record { near = self.old.near; far = self.old.far; maps = self.old.maps; stage = self.old.stage; table = record { items = self.old.table.items; values = after_at self.old.stage (known_of (N.Order.meaning self.old.near) (F.Order.meaning self.old.far) self.old.maps self.old.table.items) self.old.table.values (a_step (a_compute side assignments.now)) } } }
+        ensures answer { as_done result ≡ answer_to N.Order.meaning F.Order.meaning self.old (a_step (a_compute side assignments.now)) }
+        ensures record { self.new ≡ after_call N.Order.meaning F.Order.meaning self.old (a_step (a_compute side assignments.now)) }
     {
         at_stage(self.stage, Stage::Open)?;
         let agreement = lent(&self.maps, &self.table.items);
@@ -38,8 +38,8 @@ impl<N: Lattice, F: Lattice> Session<N, F> {
 
     // A step as a line of a script has it.
     fn take(&mut self, _pass: &OpenPass, line: &Line) -> Result<(), CallFault>
-        ensures answer { as_done result ≡ answer_at self.old.stage (known_of (N.Order.meaning self.old.near) (F.Order.meaning self.old.far) self.old.maps self.old.table.items) self.old.table.values (a_step (line_step line.now)) }
-        ensures record { self.new ≡ record { near = self.old.near; far = self.old.far; maps = self.old.maps; stage = self.old.stage; table = record { items = self.old.table.items; values = after_at self.old.stage (known_of (N.Order.meaning self.old.near) (F.Order.meaning self.old.far) self.old.maps self.old.table.items) self.old.table.values (a_step (line_step line.now)) } } }
+        ensures answer { as_done result ≡ answer_to N.Order.meaning F.Order.meaning self.old (a_step (line_step line.now)) }
+        ensures record { self.new ≡ after_call N.Order.meaning F.Order.meaning self.old (a_step (line_step line.now)) }
     {
         at_stage(self.stage, Stage::Open)?;
         let agreement = lent(&self.maps, &self.table.items);
@@ -61,8 +61,8 @@ impl<N: Lattice, F: Lattice> Session<N, F> {
         target: u64,
         source: u64,
     ) -> Result<(), CallFault>
-        ensures answer { as_done result ≡ answer_at self.old.stage (known_of (N.Order.meaning self.old.near) (F.Order.meaning self.old.far) self.old.maps self.old.table.items) self.old.table.values (a_step (a_fetch side target source)) }
-        ensures record { self.new ≡ record { near = self.old.near; far = self.old.far; maps = self.old.maps; stage = self.old.stage; table = record { items = self.old.table.items; values = after_at self.old.stage (known_of (N.Order.meaning self.old.near) (F.Order.meaning self.old.far) self.old.maps self.old.table.items) self.old.table.values (a_step (a_fetch side target source)) } } }
+        ensures answer { as_done result ≡ answer_to N.Order.meaning F.Order.meaning self.old (a_step (a_fetch side target source)) }
+        ensures record { self.new ≡ after_call N.Order.meaning F.Order.meaning self.old (a_step (a_fetch side target source)) }
     {
         self.take(
             pass,
@@ -82,8 +82,8 @@ impl<N: Lattice, F: Lattice> Session<N, F> {
         target: u64,
         source: u64,
     ) -> Result<(), CallFault>
-        ensures answer { as_done result ≡ answer_at self.old.stage (known_of (N.Order.meaning self.old.near) (F.Order.meaning self.old.far) self.old.maps self.old.table.items) self.old.table.values (a_step (a_store side target source)) }
-        ensures record { self.new ≡ record { near = self.old.near; far = self.old.far; maps = self.old.maps; stage = self.old.stage; table = record { items = self.old.table.items; values = after_at self.old.stage (known_of (N.Order.meaning self.old.near) (F.Order.meaning self.old.far) self.old.maps self.old.table.items) self.old.table.values (a_step (a_store side target source)) } } }
+        ensures answer { as_done result ≡ answer_to N.Order.meaning F.Order.meaning self.old (a_step (a_store side target source)) }
+        ensures record { self.new ≡ after_call N.Order.meaning F.Order.meaning self.old (a_step (a_store side target source)) }
     {
         self.take(
             pass,
@@ -97,24 +97,24 @@ impl<N: Lattice, F: Lattice> Session<N, F> {
 
     // Copies a near export to a far import.
     pub fn outward(&mut self, pass: &OpenPass, target: u64, source: u64) -> Result<(), CallFault>
-        ensures answer { as_done result ≡ answer_at self.old.stage (known_of (N.Order.meaning self.old.near) (F.Order.meaning self.old.far) self.old.maps self.old.table.items) self.old.table.values (a_step (an_outward target source)) }
-        ensures record { self.new ≡ record { near = self.old.near; far = self.old.far; maps = self.old.maps; stage = self.old.stage; table = record { items = self.old.table.items; values = after_at self.old.stage (known_of (N.Order.meaning self.old.near) (F.Order.meaning self.old.far) self.old.maps self.old.table.items) self.old.table.values (a_step (an_outward target source)) } } }
+        ensures answer { as_done result ≡ answer_to N.Order.meaning F.Order.meaning self.old (a_step (an_outward target source)) }
+        ensures record { self.new ≡ after_call N.Order.meaning F.Order.meaning self.old (a_step (an_outward target source)) }
     {
         self.take(pass, &Line::Outward { target, source })
     }
 
     // Copies a far export to a near import.
     pub fn inward(&mut self, pass: &OpenPass, target: u64, source: u64) -> Result<(), CallFault>
-        ensures answer { as_done result ≡ answer_at self.old.stage (known_of (N.Order.meaning self.old.near) (F.Order.meaning self.old.far) self.old.maps self.old.table.items) self.old.table.values (a_step (an_inward target source)) }
-        ensures record { self.new ≡ record { near = self.old.near; far = self.old.far; maps = self.old.maps; stage = self.old.stage; table = record { items = self.old.table.items; values = after_at self.old.stage (known_of (N.Order.meaning self.old.near) (F.Order.meaning self.old.far) self.old.maps self.old.table.items) self.old.table.values (a_step (an_inward target source)) } } }
+        ensures answer { as_done result ≡ answer_to N.Order.meaning F.Order.meaning self.old (a_step (an_inward target source)) }
+        ensures record { self.new ≡ after_call N.Order.meaning F.Order.meaning self.old (a_step (an_inward target source)) }
     {
         self.take(pass, &Line::Inward { target, source })
     }
 
     // Judges the script that begins at a bit of the bytes, then does every line of it, or does nothing.
     pub fn run(&mut self, _pass: &OpenPass, bytes: &[u8], at: u128) -> Result<ScriptType, CallFault>
-        ensures answer { as_typed result ≡ answer_at self.old.stage (known_of (N.Order.meaning self.old.near) (F.Order.meaning self.old.far) self.old.maps self.old.table.items) self.old.table.values (a_run bytes.now at) }
-        ensures record { self.new ≡ record { near = self.old.near; far = self.old.far; maps = self.old.maps; stage = self.old.stage; table = record { items = self.old.table.items; values = after_at self.old.stage (known_of (N.Order.meaning self.old.near) (F.Order.meaning self.old.far) self.old.maps self.old.table.items) self.old.table.values (a_run bytes.now at) } } }
+        ensures answer { as_typed result ≡ answer_to N.Order.meaning F.Order.meaning self.old (a_run bytes.now at) }
+        ensures record { self.new ≡ after_call N.Order.meaning F.Order.meaning self.old (a_run bytes.now at) }
     {
         at_stage(self.stage, Stage::Open)?;
         let agreement = lent(&self.maps, &self.table.items);
@@ -137,7 +137,7 @@ impl<N: Lattice, F: Lattice> Session<N, F> {
         label: u64,
         item: u64,
     ) -> Result<u64, CallFault>
-        ensures { as_shown result ≡ answer_at self.now.stage (known_of (N.Order.meaning self.now.near) (F.Order.meaning self.now.far) self.now.maps self.now.table.items) self.now.table.values (a_show side label item) }
+        ensures { as_shown result ≡ answer_to N.Order.meaning F.Order.meaning self.now (a_show side label item) }
     {
         at_stage(self.stage, Stage::Open)?;
         let agreement = lent(&self.maps, &self.table.items);
@@ -155,7 +155,7 @@ impl<N: Lattice, F: Lattice> Session<N, F> {
 
     // The type of the script that begins at a bit of the bytes; a certified or open session judges it, and needs no pass.
     pub fn judge(&self, bytes: &[u8], at: u128) -> Result<ScriptType, CallFault>
-        ensures { as_typed result ≡ gated (may_judge self.now.stage) (answer (known_of (N.Order.meaning self.now.near) (F.Order.meaning self.now.far) self.now.maps self.now.table.items) self.now.table.values (a_run bytes.now at)) }
+        ensures { as_typed result ≡ judging N.Order.meaning F.Order.meaning self.now (a_run bytes.now at) }
     {
         may_judge(self.stage)?;
         let agreement = lent(&self.maps, &self.table.items);

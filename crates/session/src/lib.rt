@@ -2,7 +2,6 @@
 #![tactic(auto)]
 
 mod calls;
-mod filling;
 mod keeping;
 mod opening;
 mod pass;
@@ -11,5 +10,5 @@ mod record;
 mod returned;
 
 pub use pass::{CertifiedPass, DraftPass, OpenPass};
-pub use record::{Entries, HouseItems, Items, Maps, Session, Table};
+pub use record::{Items, Maps, Session, Table};
 pub use returned::Returned;

@@ -1,17 +1,16 @@
-ghost use Rattle.std.specs.Prelude.{◌≡◌, ◌≤◌, length, Err, MatchResult, OnOk, ◌==◌};
-ghost use Rattle.refusal.specs.Judging.{accepted, check};
-ghost use Rattle.agreement.specs.Agreements.{agreed};
+ghost use Rattle.std.specs.Prelude.{◌≡◌, ◌≤◌, length, OnOk, ◌==◌};
+ghost use Rattle.refusal.specs.Judging.{check};
+ghost use Rattle.fixed.specs.Lists.{list_of};
 ghost use Rattle.machine.specs.Calls.{if_so, stage_judged};
-ghost use Rattle.machine.specs.Openings.{opened, opening_judged};
 ghost use Rattle.machine.specs.Secrets.{KeepsSecrets};
-ghost use Rattle.machine.specs.declared.stage.Stage.TheVariants.{Draft as draft, Certified as certified_stage, Open as open_stage};
-ghost use Rattle.session.specs.Records.{blank_table, both_items, certify_judged, known_of, maps_of, meant_items, no_maps, open_judged, zero_values};
+ghost use Rattle.machine.specs.declared.stage.Stage.TheVariants.{Draft as draft, Open as open_stage};
+ghost use Rattle.session.specs.Records.{Hands, blank_table, certify_answer, closed, known, no_maps, offered, open_answer, opened_with, with_agreement};
 
-use crate::filling::filled;
-use crate::pass::{CertifiedPass, DraftPass, OpenPass};
-use crate::record::{Entries, HouseItems, Items, Maps, Session, Table};
+use crate::pass::{CertifiedPass, DraftPass, OpenPass, exchanged};
+use crate::record::{BLANK_ITEM, Items, Maps, Session, Table};
 use crate::returned::Returned;
-use agreement::{Agreement, certify};
+use agreement::{Agreement, Item, certify};
+use fixed::FixedList;
 use machine::{CallFault, Stage, Values, at_stage};
 use order::Lattice;
 use refusal::Side;
@@ -36,20 +35,20 @@ impl<N: Lattice, F: Lattice> Session<N, F> {
 
     // Certifies the agreement and copies it in, or leaves everything as it was.
     fn admit(&mut self, agreement: &Agreement<'_>) -> Result<(), CallFault>
-        ensures answer { result ≡ certify_judged self.old.stage (agreed (N.Order.meaning self.old.near) (F.Order.meaning self.old.far) agreement.now) }
-        ensures record { self.new ≡ record { near = self.old.near; far = self.old.far; maps = if_so (certify_judged self.old.stage (agreed (N.Order.meaning self.old.near) (F.Order.meaning self.old.far) agreement.now)) (maps_of agreement.now) self.old.maps; stage = if_so (certify_judged self.old.stage (agreed (N.Order.meaning self.old.near) (F.Order.meaning self.old.far) agreement.now)) certified_stage self.old.stage; table = record { items = if_so (certify_judged self.old.stage (agreed (N.Order.meaning self.old.near) (F.Order.meaning self.old.far) agreement.now)) (both_items agreement.now) self.old.table.items; values = self.old.table.values } } }
-        ensures copied { OnOk result (known_of (N.Order.meaning self.old.near) (F.Order.meaning self.old.far) self.new.maps self.new.table.items ≡ (agreed (N.Order.meaning self.old.near) (F.Order.meaning self.old.far) agreement.now)) }
-        ensures secrets { OnOk result (KeepsSecrets (known_of (N.Order.meaning self.old.near) (F.Order.meaning self.old.far) self.new.maps self.new.table.items)) }
+        ensures answer { result ≡ certify_answer N.Order.meaning F.Order.meaning self.old agreement.now }
+        ensures record { self.new ≡ if_so (certify_answer N.Order.meaning F.Order.meaning self.old agreement.now) (with_agreement self.old agreement.now) self.old }
+        ensures copied { OnOk result (known N.Order.meaning F.Order.meaning self.new ≡ offered N.Order.meaning F.Order.meaning self.old agreement.now) }
+        ensures secrets { OnOk result (KeepsSecrets (known N.Order.meaning F.Order.meaning self.new)) }
     {
         at_stage(self.stage, Stage::Draft)?;
         certify(&self.near, &self.far, agreement)?;
         self.maps = Maps {
-            out: Entries::of(agreement.out),
-            back: Entries::of(agreement.back),
+            out: FixedList::of(0, agreement.out),
+            back: FixedList::of(0, agreement.back),
         };
         self.table.items = Items {
-            near: HouseItems::of(agreement.near_items),
-            far: HouseItems::of(agreement.far_items),
+            near: FixedList::of(BLANK_ITEM, agreement.near_items),
+            far: FixedList::of(BLANK_ITEM, agreement.far_items),
         };
         self.stage = Stage::Certified;
         Ok(())
@@ -61,32 +60,25 @@ impl<N: Lattice, F: Lattice> Session<N, F> {
         pass: DraftPass,
         agreement: &Agreement<'_>,
     ) -> Result<CertifiedPass, Returned<DraftPass>>
-        ensures answer { MatchResult result (λ _. (certify_judged self.old.stage (agreed (N.Order.meaning self.old.near) (F.Order.meaning self.old.far) agreement.now)) ≡ accepted) (λ e. (certify_judged self.old.stage (agreed (N.Order.meaning self.old.near) (F.Order.meaning self.old.far) agreement.now)) ≡ Err e.fault) }
-        ensures record { self.new ≡ record { near = self.old.near; far = self.old.far; maps = if_so (certify_judged self.old.stage (agreed (N.Order.meaning self.old.near) (F.Order.meaning self.old.far) agreement.now)) (maps_of agreement.now) self.old.maps; stage = if_so (certify_judged self.old.stage (agreed (N.Order.meaning self.old.near) (F.Order.meaning self.old.far) agreement.now)) certified_stage self.old.stage; table = record { items = if_so (certify_judged self.old.stage (agreed (N.Order.meaning self.old.near) (F.Order.meaning self.old.far) agreement.now)) (both_items agreement.now) self.old.table.items; values = self.old.table.values } } }
-        ensures copied { OnOk result (known_of (N.Order.meaning self.old.near) (F.Order.meaning self.old.far) self.new.maps self.new.table.items ≡ (agreed (N.Order.meaning self.old.near) (F.Order.meaning self.old.far) agreement.now)) }
-        ensures secrets { OnOk result (KeepsSecrets (known_of (N.Order.meaning self.old.near) (F.Order.meaning self.old.far) self.new.maps self.new.table.items)) }
+        ensures answer { Hands (certify_answer N.Order.meaning F.Order.meaning self.old agreement.now) result }
+        ensures record { self.new ≡ if_so (certify_answer N.Order.meaning F.Order.meaning self.old agreement.now) (with_agreement self.old agreement.now) self.old }
+        ensures copied { OnOk result (known N.Order.meaning F.Order.meaning self.new ≡ offered N.Order.meaning F.Order.meaning self.old agreement.now) }
+        ensures secrets { OnOk result (KeepsSecrets (known N.Order.meaning F.Order.meaning self.new)) }
     {
-        match self.admit(agreement) {
-            Ok(()) => {
-                let DraftPass { seal } = pass;
-                Ok(CertifiedPass { seal })
-            }
-            Err(fault) => Err(Returned { pass, fault }),
-        }
+        exchanged(self.admit(agreement), pass, CertifiedPass { seal: () })
     }
 
     // Sets the values, or leaves everything as it was.
     fn set_values(&mut self, near: &[u64], far: &[u64]) -> Result<(), CallFault>
-        ensures answer { result ≡ open_judged self.old.stage (known_of (N.Order.meaning self.old.near) (F.Order.meaning self.old.far) self.old.maps self.old.table.items) near.now far.now }
-        ensures record { self.new ≡ record { near = self.old.near; far = self.old.far; maps = self.old.maps; stage = if_so (open_judged self.old.stage (known_of (N.Order.meaning self.old.near) (F.Order.meaning self.old.far) self.old.maps self.old.table.items) near.now far.now) open_stage self.old.stage; table = record { items = self.old.table.items; values = if_so (open_judged self.old.stage (known_of (N.Order.meaning self.old.near) (F.Order.meaning self.old.far) self.old.maps self.old.table.items) near.now far.now) (opened near.now far.now) self.old.table.values } } }
+        ensures answer { result ≡ open_answer N.Order.meaning F.Order.meaning self.old near.now far.now }
+        ensures record { self.new ≡ if_so (open_answer N.Order.meaning F.Order.meaning self.old near.now far.now) (opened_with self.old near.now far.now) self.old }
     {
         at_stage(self.stage, Stage::Certified)?;
-        of_length(Side::Near, &self.table.items.near, near)?;
-        of_length(Side::Far, &self.table.items.far, far)?;
-        self.table.values = Values {
-            near: filled([0; 128], near),
-            far: filled([0; 128], far),
-        };
+        of_length(Side::Near, self.table.items.near.as_slice(), near)?;
+        of_length(Side::Far, self.table.items.far.as_slice(), far)?;
+        let near = FixedList::of(0, near).places;
+        let far = FixedList::of(0, far).places;
+        self.table.values = Values { near, far };
         self.stage = Stage::Open;
         Ok(())
     }
@@ -98,41 +90,37 @@ impl<N: Lattice, F: Lattice> Session<N, F> {
         near: &[u64],
         far: &[u64],
     ) -> Result<OpenPass, Returned<CertifiedPass>>
-        ensures answer { MatchResult result (λ _. (open_judged self.old.stage (known_of (N.Order.meaning self.old.near) (F.Order.meaning self.old.far) self.old.maps self.old.table.items) near.now far.now) ≡ accepted) (λ e. (open_judged self.old.stage (known_of (N.Order.meaning self.old.near) (F.Order.meaning self.old.far) self.old.maps self.old.table.items) near.now far.now) ≡ Err e.fault) }
-        ensures record { self.new ≡ record { near = self.old.near; far = self.old.far; maps = self.old.maps; stage = if_so (open_judged self.old.stage (known_of (N.Order.meaning self.old.near) (F.Order.meaning self.old.far) self.old.maps self.old.table.items) near.now far.now) open_stage self.old.stage; table = record { items = self.old.table.items; values = if_so (open_judged self.old.stage (known_of (N.Order.meaning self.old.near) (F.Order.meaning self.old.far) self.old.maps self.old.table.items) near.now far.now) (opened near.now far.now) self.old.table.values } } }
+        ensures answer { Hands (open_answer N.Order.meaning F.Order.meaning self.old near.now far.now) result }
+        ensures record { self.new ≡ if_so (open_answer N.Order.meaning F.Order.meaning self.old near.now far.now) (opened_with self.old near.now far.now) self.old }
     {
-        match self.set_values(near, far) {
-            Ok(()) => {
-                let CertifiedPass { seal } = pass;
-                Ok(OpenPass { seal })
-            }
-            Err(fault) => Err(Returned { pass, fault }),
-        }
+        exchanged(self.set_values(near, far), pass, OpenPass { seal: () })
+    }
+
+    // Forgets the values, or leaves everything as it was.
+    fn forget_values(&mut self) -> Result<(), CallFault>
+        ensures answer { result ≡ stage_judged self.old.stage open_stage }
+        ensures record { self.new ≡ if_so (stage_judged self.old.stage open_stage) (closed self.old) self.old }
+    {
+        at_stage(self.stage, Stage::Open)?;
+        self.table.values = Values::ZERO;
+        self.stage = Stage::Certified;
+        Ok(())
     }
 
     // Sets the values to 0. The session may be opened again.
     pub fn close(&mut self, pass: OpenPass) -> Result<CertifiedPass, Returned<OpenPass>>
-        ensures answer { MatchResult result (λ _. (stage_judged self.old.stage open_stage) ≡ accepted) (λ e. (stage_judged self.old.stage open_stage) ≡ Err e.fault) }
-        ensures record { self.new ≡ record { near = self.old.near; far = self.old.far; maps = self.old.maps; stage = if_so (stage_judged self.old.stage open_stage) certified_stage self.old.stage; table = record { items = self.old.table.items; values = if_so (stage_judged self.old.stage open_stage) zero_values self.old.table.values } } }
+        ensures answer { Hands (stage_judged self.old.stage open_stage) result }
+        ensures record { self.new ≡ if_so (stage_judged self.old.stage open_stage) (closed self.old) self.old }
     {
-        match at_stage(self.stage, Stage::Open) {
-            Ok(()) => {
-                self.table.values = Values::ZERO;
-                self.stage = Stage::Certified;
-                let OpenPass { seal } = pass;
-                Ok(CertifiedPass { seal })
-            }
-            Err(fault) => Err(Returned { pass, fault }),
-        }
+        exchanged(self.forget_values(), pass, CertifiedPass { seal: () })
     }
 }
 
 // Whether a list of values is as long as the items of its house, and so not too long.
-fn of_length(side: Side, items: &HouseItems, values: &[u64]) -> Result<(), CallFault>
-    ensures answer { result ≡ check (length values.now == length (meant_items items.now)) (CallFault.Values side (length (meant_items items.now))) }
-    ensures few { OnOk result (length values.now ≤ 128) }
+fn of_length(side: Side, items: &[Item], values: &[u64]) -> Result<(), CallFault>
+    ensures { result ≡ check (length values.now == length items.now) (CallFault.Values side (length items.now)) }
 {
-    let needed = items.as_slice().len();
+    let needed = items.len();
     if values.len() == needed {
         Ok(())
     } else {

@@ -1,7 +1,7 @@
 ghost use Rattle.std.specs.Prelude.{◌≡◌, IfOk, vec_items};
 ghost use Rattle.std.specs.Option.{option_map};
 ghost use Rattle.agreement.specs.Views.{ListsView};
-ghost use Rattle.session.specs.Records.{known_of};
+ghost use Rattle.session.specs.Records.{known};
 
 use crate::keeping::lent;
 use crate::record::Session;
@@ -13,7 +13,7 @@ use std::alloc::{AllocError, Global};
 impl<N: Lattice, F: Lattice> Session<N, F> {
     // How many labels a house has.
     pub fn labels(&self, side: Side) -> u64
-        ensures { result ≡ ((known_of (N.Order.meaning self.now.near) (F.Order.meaning self.now.far) self.now.maps self.now.table.items).order side).count }
+        ensures { result ≡ ((known N.Order.meaning F.Order.meaning self.now).order side).count }
     {
         match side {
             Side::Near => self.near.count(),
@@ -23,7 +23,7 @@ impl<N: Lattice, F: Lattice> Session<N, F> {
 
     // The items of a house.
     pub fn items(&self, side: Side) -> &[Item]
-        ensures { result.now ≡ (known_of (N.Order.meaning self.now.near) (F.Order.meaning self.now.far) self.now.maps self.now.table.items).items side }
+        ensures { result.now ≡ (known N.Order.meaning F.Order.meaning self.now).items side }
     {
         match side {
             Side::Near => self.table.items.near.as_slice(),
@@ -40,7 +40,7 @@ impl<N: Lattice, F: Lattice> Session<N, F> {
         label: u64,
         house: Side,
     ) -> Result<Option<Vec<u64>>, AllocError>
-        ensures { IfOk result (λ o. ListsView (known_of (N.Order.meaning self.now.near) (F.Order.meaning self.now.far) self.now.maps self.now.table.items) side label house (option_map vec_items o)) }
+        ensures { IfOk result (λ o. ListsView (known N.Order.meaning F.Order.meaning self.now) side label house (option_map vec_items o)) }
     {
         let agreement = lent(&self.maps, &self.table.items);
         items_in_view(heap, &self.near, &self.far, &agreement, side, label, house)

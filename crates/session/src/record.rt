@@ -1,58 +1,52 @@
 use agreement::Item;
+use fixed::FixedList;
 use machine::{Stage, Values};
 
-// The entries of a map: the first `count` of the table, with zeros behind them.
-#[derive(Clone, Copy)]
-pub struct Entries {
-    pub(crate) count: u64,
-    pub(crate) entries: [u64; 64],
-}
+// The most labels that a house has, and the most items.
+const MOST_LABELS: usize = 64;
 
+const MOST_ITEMS: usize = 128;
+
+// The images of the labels of each house.
 #[derive(Clone, Copy)]
 pub struct Maps {
-    pub(crate) out: Entries,
-    pub(crate) back: Entries,
+    pub(crate) out: FixedList<u64, MOST_LABELS>,
+    pub(crate) back: FixedList<u64, MOST_LABELS>,
 }
 
 impl Maps {
     // Before certification there are no entries.
     pub(crate) const NONE: Maps = Maps {
-        out: Entries {
-            count: 0,
-            entries: [0; 64],
-        },
-        back: Entries {
-            count: 0,
-            entries: [0; 64],
-        },
+        out: NO_ENTRIES,
+        back: NO_ENTRIES,
     };
 }
 
-// The items of a house: the first `count` of the table, with working items at label 0 behind them.
-#[derive(Clone, Copy)]
-pub struct HouseItems {
-    pub(crate) count: u64,
-    pub(crate) items: [Item; 128],
-}
+const NO_ENTRIES: FixedList<u64, MOST_LABELS> = FixedList {
+    count: 0,
+    places: [0; MOST_LABELS],
+};
 
 #[derive(Clone, Copy)]
 pub struct Items {
-    pub(crate) near: HouseItems,
-    pub(crate) far: HouseItems,
+    pub(crate) near: FixedList<Item, MOST_ITEMS>,
+    pub(crate) far: FixedList<Item, MOST_ITEMS>,
 }
 
 impl Items {
     pub(crate) const NONE: Items = Items {
-        near: HouseItems {
-            count: 0,
-            items: [Item { role: 0, label: 0 }; 128],
-        },
-        far: HouseItems {
-            count: 0,
-            items: [Item { role: 0, label: 0 }; 128],
-        },
+        near: NO_ITEMS,
+        far: NO_ITEMS,
     };
 }
+
+const NO_ITEMS: FixedList<Item, MOST_ITEMS> = FixedList {
+    count: 0,
+    places: [BLANK_ITEM; MOST_ITEMS],
+};
+
+// What stands behind the items of a house.
+pub(crate) const BLANK_ITEM: Item = Item { role: 0, label: 0 };
 
 // The items of both houses, and what they hold.
 #[derive(Clone, Copy)]
