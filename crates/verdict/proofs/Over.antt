@@ -2,17 +2,15 @@
 use Rattle.std.proofs.Common.{◌≡◌, ℕ, List, Ok, Err, subst, arith}
 use Rattle.refusal.specs.Judging.{Judgement, accepted, under}
 use Rattle.order.specs.Orders.{PartialOrder}
-use Rattle.agreement.specs.Agreements.{agreed, joint}
+use Rattle.agreement.specs.Agreements.{Joint, agreed, joint}
 use Rattle.agreement.specs.Certified.{certified}
 use Rattle.agreement.specs.declared.certification.Agreement.{Agreement}
 use Rattle.agreement.specs.declared.fault.Fault.{Fault}
 use Rattle.house.specs.declared.table.Table.{Table}
-use Rattle.machine.specs.Secrets.{KeepsSecrets}
 use Rattle.machine.specs.declared.fault.CallFault.{CallFault}
 use Rattle.machine.specs.declared.fault.CallFault.TheVariants.{Agreement as in_agreement}
-use Rattle.session.specs.Records.{certify_judged, known_of}
-use Rattle.session.specs.declared.record.Items.{Items}
-use Rattle.session.specs.declared.record.Maps.{Maps}
+use Rattle.machine.specs.declared.stage.Stage.TheVariants.{Certified}
+use Rattle.session.specs.Records.{certify_judged}
 use Rattle.session.specs.declared.record.Session.{Session}
 use Rattle.sheet.specs.Parts.{meant_entries, meant_items}
 use Rattle.sheet.specs.declared.parts.Parts.{Parts}
@@ -23,12 +21,12 @@ use Rattle.verdict.specs.Opening.{CallRefused, described, HousesStand}
 pub handed_on : (N F : PartialOrder) (parts : Parts) (a : Agreement) → a.out.now ≡ meant_entries parts.out → a.back.now ≡ meant_entries parts.back → a.near_items.now ≡ meant_items parts.near_items → a.far_items.now ≡ meant_items parts.far_items → agreed N F a ≡ described N F parts
 handed_on N F parts a p q r s = λ i. joint N F (p i) (q i) (r i) (s i)
 
--- two lattices, and what a record keeps, are the sheet's
-pub record Over (meaning : Table → PartialOrder) (bytes : List ℕ) (near far : Table) (maps : Maps) (items : Items) (s : Sheet) : Type 0 where
-  pub houses : HousesStand bytes (meaning near) (meaning far) s
-  pub certifies : certified (described (meaning near) (meaning far) s.parts) ≡ accepted
-  pub holds_it : known_of (meaning near) (meaning far) maps items ≡ described (meaning near) (meaning far) s.parts
-  pub keeps_secrets : KeepsSecrets (known_of (meaning near) (meaning far) maps items)
+-- a certified session over the sheet's houses, where J is the agreement that it was handed
+pub record Over (meaning : Table → PartialOrder) (bytes : List ℕ) (J : Joint) (sheet : Sheet) (s : Session Table Table) : Type 0 where
+  pub houses : HousesStand bytes (meaning s.near) (meaning s.far) sheet
+  pub certifies : certified (described (meaning s.near) (meaning s.far) sheet.parts) ≡ accepted
+  pub certified_now : s.stage ≡ Certified
+  pub same : J ≡ described (meaning s.near) (meaning s.far) sheet.parts
 
 -- a fresh session over the sheet's houses, and the sheet's agreement
 pub record Offered (meaning : Table → PartialOrder) (bytes : List ℕ) (fresh : Session Table Table) (a : Agreement) (s : Sheet) : Type 0 where

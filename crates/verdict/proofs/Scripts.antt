@@ -12,7 +12,7 @@ use Rattle.machine.specs.declared.script_type.ScriptType.{ScriptType}
 use Rattle.machine.specs.declared.stage.Stage.{Stage}
 use Rattle.machine.specs.declared.stage.Stage.TheVariants.{Certified}
 use Rattle.machine.specs.declared.values.Values.{Values}
-use Rattle.session.specs.Records.{known_of}
+use Rattle.session.specs.Records.{known}
 use Rattle.session.proofs.Gates.{carried}
 use Rattle.verdict.specs.Opening.{CallRefused, described, OpenedBy}
 use Rattle.verdict.specs.Verdicts.{AcceptedWith}
@@ -37,13 +37,13 @@ module _ (meaning : Table → PartialOrder) (bytes : List ℕ) (o : Opened) (by 
   F = meaning o.session.far
 
   -- the script of the sheet, judged by the sheet's agreement
-  same_script : script_judged (known_of N F o.session.maps o.session.table.items) bytes o.script ≡ script_judged (described N F by.sheet.parts) bytes by.sheet.script
+  same_script : script_judged (known meaning meaning o.session) bytes o.script ≡ script_judged (described N F by.sheet.parts) bytes by.sheet.script
   same_script = ap₂ (λ (J : Joint) (at : ℕ). script_judged J bytes at) by.holds_it by.script_begins
 
-  module _ (r : Result ScriptType CallFault) (told : as_typed r ≡ gated (may_judge o.session.stage) (answer (known_of N F o.session.maps o.session.table.items) o.session.table.values (run bytes o.script))) where
+  module _ (r : Result ScriptType CallFault) (told : as_typed r ≡ gated (may_judge o.session.stage) (answer (known meaning meaning o.session) o.session.table.values (run bytes o.script))) where
     so : r ≡ carried in_script (script_judged (described N F by.sheet.parts) bytes by.sheet.script)
     so =
-        judged_so o.session.stage by.certified_now (known_of N F o.session.maps o.session.table.items) o.session.table.values bytes o.script r told
+        judged_so o.session.stage by.certified_now (known meaning meaning o.session) o.session.table.values bytes o.script r told
         ∙ ap (carried in_script) same_script
 
     pub script_accepted : (T : ScriptType) → r ≡ Ok T → AcceptedWith bytes T

@@ -14,7 +14,7 @@ use Rattle.machine.specs.Secrets.{KeepsSecrets}
 use Rattle.machine.specs.declared.fault.CallFault.{CallFault}
 use Rattle.machine.specs.declared.fault.CallFault.TheVariants.{WrongStage, Agreement, Values, Step, Script}
 use Rattle.machine.specs.declared.stage.Stage.TheVariants.{Certified}
-use Rattle.session.specs.Records.{known_of}
+use Rattle.session.specs.Records.{known}
 use Rattle.sheet.specs.Parts.{meant_entries, meant_items}
 use Rattle.sheet.specs.Reading.{ReadsSheet}
 use Rattle.sheet.specs.declared.parts.Parts.{Parts}
@@ -48,8 +48,8 @@ pub record OpenedBy (meaning : Table → PartialOrder) (bytes : List ℕ) (o : O
   pub houses : HousesStand bytes (meaning o.session.near) (meaning o.session.far) sheet
   pub certifies : certified (described (meaning o.session.near) (meaning o.session.far) sheet.parts) ≡ accepted
   pub certified_now : o.session.stage ≡ Certified
-  pub holds_it : known_of (meaning o.session.near) (meaning o.session.far) o.session.maps o.session.table.items ≡ described (meaning o.session.near) (meaning o.session.far) sheet.parts
-  pub keeps_secrets : KeepsSecrets (known_of (meaning o.session.near) (meaning o.session.far) o.session.maps o.session.table.items)
+  pub holds_it : known meaning meaning o.session ≡ described (meaning o.session.near) (meaning o.session.far) sheet.parts
+  pub keeps_secrets : KeepsSecrets (known meaning meaning o.session)
   pub script_begins : o.script ≡ sheet.script
 
 -- the agreement or the script of a sheet whose houses stand is refused so

@@ -1,4 +1,4 @@
-use Rattle.std.proofs.Common.{sym, refl, ap, ◌∙◌, subst}
+use Rattle.std.proofs.Common.{◌≡◌, sym, refl, ap, ◌∙◌, subst}
 use Rattle.refusal.specs.Judging.{Judgement}
 use Rattle.refusal.proofs.Accepting.{under_accepted}
 use Rattle.agreement.specs.Agreements.{agreed}
@@ -8,8 +8,7 @@ use Rattle.house.specs.declared.table.Table.{Table}
 use Rattle.machine.specs.Calls.{if_so}
 use Rattle.machine.specs.declared.fault.CallFault.{CallFault}
 use Rattle.machine.specs.declared.fault.CallFault.TheVariants.{Agreement as in_agreement}
-use Rattle.machine.specs.declared.stage.Stage.TheVariants.{Certified}
-use Rattle.session.specs.Records.{certify_judged}
+use Rattle.session.specs.Records.{certify_judged, with_agreement}
 use Rattle.session.specs.declared.record.Session.{Session}
 use Rattle.verdict.specs.Opening.{HousesStand}
 use Rattle.verdict.proofs.Over.{agreement_refused, handed_on, Offered, Over}
@@ -43,20 +42,21 @@ returns-in-Ok c =
     let bytes = c.args.bytes.now in
     let sheet = c.in_ok-sheet.sheet in
     let fresh = c.new.result.0 in
-    let end = c.certify.new.self in
+    let a = c.agreement.result in
     let got = c.in-Ok.ensures in
     let offer = offered (at-returns-in-Ok c).After-certify in
-    let certifies = under_accepted in_agreement (certified (agreed (ordered.meaning fresh.near) (ordered.meaning fresh.far) c.agreement.result)) (sym offer.at_draft ∙ got.answer) in
-    let over : Over ordered.meaning bytes fresh.near fresh.far end.maps end.table.items sheet =
-    record { houses = offer.houses; certifies = ap certified (sym offer.same) ∙ certifies; holds_it = got.copied ∙ offer.same; keeps_secrets = got.secrets } in
-    let by = subst (λ (x : Session Table Table). Over ordered.meaning bytes x.near x.far end.maps end.table.items sheet) (sym got.record) over in
+    let certifies = under_accepted in_agreement (certified (agreed (ordered.meaning fresh.near) (ordered.meaning fresh.far) a)) (sym offer.at_draft ∙ got.answer) in
+    let over : Over ordered.meaning bytes (agreed (ordered.meaning fresh.near) (ordered.meaning fresh.far) a) sheet (with_agreement fresh a) =
+    record { houses = offer.houses; certifies = ap certified (sym offer.same) ∙ certifies; certified_now = refl; same = offer.same } in
+    let left : c.certify.new.self ≡ with_agreement fresh a = got.record ∙ ap (λ (j : Judgement CallFault). if_so j (with_agreement fresh a) fresh) got.answer in
+    let by = subst (λ (s : Session Table Table). Over ordered.meaning bytes (agreed (ordered.meaning fresh.near) (ordered.meaning fresh.far) a) sheet s) (sym left) over in
     record {
       sheet = sheet;
       houses = by.houses;
       certifies = by.certifies;
-      certified_now = ap (λ (x : Session Table Table). x.stage) got.record ∙ ap (λ (j : Judgement CallFault). if_so j Certified fresh.stage) got.answer;
-      holds_it = by.holds_it;
-      keeps_secrets = by.keeps_secrets;
+      certified_now = by.certified_now;
+      holds_it = got.copied ∙ by.same;
+      keeps_secrets = got.secrets;
       script_begins = refl;
     }
 

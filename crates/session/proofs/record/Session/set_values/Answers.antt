@@ -1,6 +1,5 @@
 use Rattle.std.proofs.Common.{◌≡◌, ℕ, List, sym, ap, ◌∙◌, ap₂}
 use Rattle.fixed.specs.Lists.{padded}
-use Rattle.format.specs.Formats as X
 use Rattle.refusal.specs.Judging.{Judgement, accepted}
 use Rattle.refusal.specs.declared.Side.TheVariants.{Near, Far}
 use Rattle.refusal.proofs.Judging.{then_at}
@@ -15,7 +14,7 @@ use Rattle.session.proofs.Kept.{check_length, values_fit}
 use Rattle.session.proofs.record.Session.set_values.Goals as goal
 
 pub returns-clause-record : goal.returns-clause-record
-unfolding padded X.padded
+unfolding padded
 returns-clause-record g c =
     let self = c.args.self.now in
     let near = c.args.near.now in
