@@ -11,7 +11,7 @@ use refusal::Side;
 use std::alloc::{AllocError, Global};
 
 // What somebody cleared for a label may come to depend on: in each house the labels that flow to the highest one.
-#[derive(Clone, Copy)]
+#[derive(Clone, Copy, PartialEq, Eq, Debug)]
 pub struct View {
     pub near: u64,
     pub far: u64,

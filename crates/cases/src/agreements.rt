@@ -1,6 +1,7 @@
 // What agreements between two chains are refused with: number, side, p and q, or nothing where they are accepted.
-use agreement::{Agreement, Item, View, certify, items_up_to, move_allowed, settled, view_of};
-use order::Order;
+use agreement::{
+    Agreement, Item, Joined, LabelMap, Role, RoundTrip, UnknownRole, View, items_up_to,
+};
 use refusal::{Refusal, Side};
 use std::test::Fail;
 use tables::Graded;
@@ -13,11 +14,11 @@ struct Case {
     refused: Option<Refusal>,
 }
 
-const WORKING: u64 = 0;
+const WORKING: u64 = Role::Working as u64;
 
-const IMPORT: u64 = 1;
+const IMPORT: u64 = Role::Import as u64;
 
-const EXPORT: u64 = 2;
+const EXPORT: u64 = Role::Export as u64;
 
 const ANY: u64 = 0xffff_ffff_ffff_ffff;
 
@@ -428,14 +429,16 @@ static ITEMS: [Items; 10] = [
 ];
 
 fn chain(labels: u64) -> Result<Graded, Fail> {
-    match Graded::new(labels, 0) {
-        Ok(chain) => Ok(chain),
-        Err(_) => Err(Fail::new("a chain has 1 to 8 labels")),
-    }
+    Graded::new(labels, 0).map_err(|_| Fail::new("a chain has 1 to 8 labels"))
 }
 
-fn refused<N: Order, F: Order>(near: &N, far: &F, agreement: &Agreement<'_>) -> Option<Refusal> {
-    certify(near, far, agreement).err().map(Refusal::from)
+fn refused(near: &Graded, far: &Graded, agreement: Agreement<'_>) -> Option<Refusal> {
+    let joined = Joined {
+        near,
+        far,
+        agreement,
+    };
+    joined.certify().err().map(Refusal::from)
 }
 
 #[test]
@@ -443,7 +446,7 @@ fn map_rules(rt: HostRuntime) -> Result<(), Fail> {
     for case in &MAPS {
         let near = chain(case.near)?;
         let far = chain(case.far)?;
-        assert_eq!(rt; refused(&near, &far, &case.agreement), case.refused);
+        assert_eq!(rt; refused(&near, &far, case.agreement), case.refused);
     }
     Ok(())
 }
@@ -459,29 +462,45 @@ fn item_rules(rt: HostRuntime) -> Result<(), Fail> {
             near_items: case.near,
             far_items: case.far,
         };
-        assert_eq!(rt; refused(&near, &far, &agreement), case.refused);
+        assert_eq!(rt; refused(&near, &far, agreement), case.refused);
     }
     Ok(())
 }
 
+fn settled(out: &[u64], back: &[u64], label: u64) -> Result<bool, Fail> {
+    let from = chain(3)?;
+    let to = chain(2)?;
+    let trip = RoundTrip {
+        from,
+        to,
+        out,
+        back,
+    };
+    Ok(trip.settled(label))
+}
+
 #[test]
 fn settled_labels(rt: HostRuntime) -> Result<(), Fail> {
-    let near = chain(3)?;
-    let far = chain(2)?;
-    assert!(rt; settled(&near, &far, &[0, 1, 1], &[0, 2], 0));
-    assert!(rt; !settled(&near, &far, &[0, 1, 1], &[0, 2], 1));
-    assert!(rt; settled(&near, &far, &[0, 1, 1], &[0, 2], 2));
+    assert!(rt; settled(&[0, 1, 1], &[0, 2], 0)?);
+    assert!(rt; !settled(&[0, 1, 1], &[0, 2], 1)?);
+    assert!(rt; settled(&[0, 1, 1], &[0, 2], 2)?);
     // unknown, and without an entry on the way
-    assert!(rt; !settled(&near, &far, &[0, 1, 1, 3], &[0, 2], 3));
-    assert!(rt; !settled(&near, &far, &[0, 1], &[0, 2], 2));
-    assert!(rt; !settled(&near, &far, &[0, 1, 1], &[0], 2));
+    assert!(rt; !settled(&[0, 1, 1, 3], &[0, 2], 3)?);
+    assert!(rt; !settled(&[0, 1], &[0, 2], 2)?);
+    assert!(rt; !settled(&[0, 1, 1], &[0], 2)?);
     Ok(())
 }
 
-fn highest(view: Option<View>) -> Option<(u64, u64)> {
-    match view {
-        Some(view) => Some((view.near, view.far)),
-        None => None,
+fn connected<'a>(near: &'a Graded, far: &'a Graded) -> Joined<'a, Graded, Graded> {
+    Joined {
+        near,
+        far,
+        agreement: Agreement {
+            out: &[0, 1, 1],
+            back: &[0, 2],
+            near_items: &[],
+            far_items: &[],
+        },
     }
 }
 
@@ -489,72 +508,50 @@ fn highest(view: Option<View>) -> Option<(u64, u64)> {
 fn views(rt: HostRuntime) -> Result<(), Fail> {
     let near = chain(3)?;
     let far = chain(2)?;
-    let agreement = Agreement {
-        out: &[0, 1, 1],
-        back: &[0, 2],
-        near_items: &[],
-        far_items: &[],
-    };
-    assert_eq!(rt;
-        highest(view_of(&near, &far, &agreement, Side::Near, 0)),
-        Some((0, 0))
-    );
-    assert_eq!(rt;
-        highest(view_of(&near, &far, &agreement, Side::Near, 1)),
-        Some((2, 1))
-    );
-    assert_eq!(rt;
-        highest(view_of(&near, &far, &agreement, Side::Far, 0)),
-        Some((0, 0))
-    );
-    assert_eq!(rt;
-        highest(view_of(&near, &far, &agreement, Side::Far, 1)),
-        Some((2, 1))
-    );
-    assert_eq!(rt;
-        highest(view_of(&near, &far, &agreement, Side::Near, 3)),
-        None
-    );
-    assert_eq!(rt;
-        highest(view_of(&near, &far, &agreement, Side::Far, 2)),
-        None
-    );
+    let joined = connected(&near, &far);
+    let low = Some(View { near: 0, far: 0 });
+    let high = Some(View { near: 2, far: 1 });
+    assert_eq!(rt; joined.view(Side::Near, 0), low);
+    assert_eq!(rt; joined.view(Side::Near, 1), high);
+    assert_eq!(rt; joined.view(Side::Far, 0), low);
+    assert_eq!(rt; joined.view(Side::Far, 1), high);
+    assert_eq!(rt; joined.view(Side::Near, 3), None);
+    assert_eq!(rt; joined.view(Side::Far, 2), None);
     Ok(())
 }
 
 #[test]
 fn moves(rt: HostRuntime) -> Result<(), Fail> {
-    let near = chain(3)?;
-    let far = chain(2)?;
-    assert!(rt; !move_allowed(&near, &far, &[0, 1, 1], 2, 0));
-    assert!(rt; move_allowed(&near, &far, &[0, 1, 1], 0, 1));
-    assert!(rt; !move_allowed(&near, &far, &[0, 1, 1], 3, 1));
+    let map = LabelMap {
+        from: chain(3)?,
+        to: chain(2)?,
+        images: &[0, 1, 1],
+    };
+    assert!(rt; !map.allows(2, 0));
+    assert!(rt; map.allows(0, 1));
+    assert!(rt; !map.allows(3, 1));
     Ok(())
 }
 
 #[test]
 fn listed_items(rt: HostRuntime) -> Result<(), Fail> {
     let near = chain(3)?;
-    let items = [
-        Item {
-            role: WORKING,
-            label: 1,
-        },
-        Item {
-            role: WORKING,
-            label: 2,
-        },
-        Item {
-            role: WORKING,
-            label: 3,
-        },
-        Item {
-            role: WORKING,
-            label: 0,
-        },
-    ];
+    let items = [1, 2, 3, 0].map(|label| Item {
+        role: WORKING,
+        label,
+    });
     let numbers = items_up_to(rt.alloc(), &near, 1, &items)?;
     assert!(rt; numbers.as_slice() == [0, 3].as_slice());
     assert!(rt; items_up_to(rt.alloc(), &near, 3, &items)?.is_empty());
     Ok(())
+}
+
+// Each role is the one of its number, and no number beyond them is a role.
+#[test]
+fn roles(rt: HostRuntime) {
+    assert_eq!(rt; Role::try_from(WORKING), Ok(Role::Working));
+    assert_eq!(rt; Role::try_from(IMPORT), Ok(Role::Import));
+    assert_eq!(rt; Role::try_from(EXPORT), Ok(Role::Export));
+    assert_eq!(rt; Role::try_from(3), Err(UnknownRole(3)));
+    assert_eq!(rt; Role::try_from(ANY), Err(UnknownRole(ANY)));
 }

@@ -35,9 +35,7 @@ fn bounds_are<L: Lattice>(
 // Two levels and two compartments: 1 does not flow to 6, they join to 7 and meet in 0; reversed they join to 0.
 #[test]
 fn graded_and_reversed(rt: HostRuntime) -> Result<(), Fail> {
-    let Ok(graded) = Graded::new(2, 2) else {
-        return Err(Fail::new("within the limits"));
-    };
+    let graded = Graded::new(2, 2).map_err(|_| Fail::new("within the limits"))?;
     bounds_are(&rt, &graded, 0, 7, [1, 6], 7, 0);
     let reversed = Reversed { inner: graded };
     bounds_are(&rt, &reversed, 7, 0, [1, 6], 0, 7);
@@ -57,7 +55,7 @@ fn listed_and_reversed(rt: HostRuntime) {
     bounds_are(&rt, &Reversed { inner: listed }, 0, 3, [1, 2], 3, 0);
 }
 
-fn refused_number<N: Order, F: Order>(near: &N, far: &F) -> Option<u8> {
+fn refused_number<'a, N: Order, F: Order>(near: &'a N, far: &'a F) -> Option<u8> {
     let agreement = Agreement {
         out: &[0, 0],
         back: &[0, 0],
@@ -78,9 +76,7 @@ fn refused_number<N: Order, F: Order>(near: &N, far: &F) -> Option<u8> {
 fn certified_at_layers(rt: HostRuntime) -> Result<(), Fail> {
     let mut listed = Listed::new();
     assert!(rt; listed.write(&[0b11, 0b10]).is_ok());
-    let Ok(graded) = Graded::new(2, 0) else {
-        return Err(Fail::new("within the limits"));
-    };
+    let graded = Graded::new(2, 0).map_err(|_| Fail::new("within the limits"))?;
     assert_eq!(rt; refused_number(&listed, &graded), Some(9));
     let near = Reversed { inner: listed };
     let far = Reversed { inner: graded };

@@ -1,7 +1,7 @@
 // What tables are refused with: number, p and q, or nothing where they are accepted.
 use order::Order;
 use refusal::Refusal;
-use tables::{Graded, Listed};
+use tables::{Graded, Listed, TableFault};
 
 struct Rows {
     rows: &'static [u32],
@@ -85,15 +85,13 @@ static LISTED: [Rows; 16] = [
     },
 ];
 
+fn place_of(fault: TableFault) -> (u8, u128, u64) {
+    let Refusal { number, p, q, .. } = Refusal::from(fault);
+    (number, p, q)
+}
+
 fn refused(rows: &[u32]) -> Option<(u8, u128, u64)> {
-    let mut place = Listed::new();
-    match place.write(rows) {
-        Ok(()) => None,
-        Err(fault) => {
-            let refusal = Refusal::from(fault);
-            Some((refusal.number, refusal.p, refusal.q))
-        }
-    }
+    Listed::new().write(rows).err().map(place_of)
 }
 
 #[test]
@@ -163,13 +161,9 @@ static GRADED: [Grades; 7] = [
 #[test]
 fn graded_tables(rt: HostRuntime) {
     for case in &GRADED {
-        let refused = match Graded::new(case.levels, case.compartments) {
-            Ok(_) => None,
-            Err(fault) => {
-                let refusal = Refusal::from(fault);
-                Some((refusal.number, refusal.p, refusal.q))
-            }
-        };
+        let refused = Graded::new(case.levels, case.compartments)
+            .err()
+            .map(place_of);
         assert_eq!(rt; refused, case.refused);
     }
 }
