@@ -1,13 +1,20 @@
 -- Greatest lower labels of lists that grow at the end. Assumes nothing.
-use Rattle.std.proofs.Common.{◌≡◌, ℕ, ◌<◌, List, [], ◌∷◌, ◌++◌, Some, None, Option, MatchOption, sym, ap, subst}
-use Rattle.std.proofs.lemmas.List.{append-nil, append_assoc}
+use Rattle.std.proofs.Common.{◌≡◌, ℕ, ◌+◌, ◌<◌, List, [], ◌∷◌, ◌++◌, map, length, get_or, take, Some, None, Option, MatchOption, sym, refl, ap, ◌∙◌, subst}
+use Rattle.std.proofs.lemmas.List.{append-nil, append_assoc, map_more}
 use Rattle.std.proofs.lemmas.Option.{MatchOption-at_some, MatchOption-at_none}
+use Rattle.refusal.specs.declared.Side.{Side}
+use Rattle.refusal.specs.declared.Side.TheVariants.{Near, Far}
 use Rattle.order.specs.Bounds.{Known, Joined, Supremum}
 use Rattle.order.specs.Orders.{PartialOrder, dual}
 use Rattle.order.proofs.Searches.{supremum_is}
 use Rattle.order.proofs.Suprema.{supremum_push}
-use Rattle.machine.specs.Types.{or_zero, or_top}
-use Rattle.steps.specs.Folds.{Lowers}
+use Rattle.agreement.specs.Agreements.{Joint}
+use Rattle.script.specs.Lines.{blank}
+use Rattle.script.specs.declared.line.Assignment.{Assignment}
+use Rattle.machine.specs.Steps.{compute, label_of}
+use Rattle.machine.specs.Types.{for_house, or_zero, or_top}
+use Rattle.steps.specs.Folds.{Lowers, LowersBoth, LowersBy}
+use Rattle.steps.specs.declared.typing.Lowest.{Lowest}
 
 known_front : (P : PartialOrder) (xs : List ℕ) (y : ℕ) → Known P (xs ++ y ∷ []) → Known P xs
 known_front P [] y all = tt
@@ -42,3 +49,31 @@ module _ (P : PartialOrder) where
   pub or_top_is : (bound : Option ℕ) {top : ℕ} → MatchOption bound (Supremum (dual P) [] top) (λ c. top ≡ c) → top ≡ or_top P bound
   or_top_is None {top} s = ap or_zero (supremum_is (dual P) [] (Some top) s)
   or_top_is (Some c) e = e
+
+for_house_append : (s u : Side) (xs ys : List ℕ) → (for_house s u xs ++ for_house s u ys) ≡ for_house s u (xs ++ ys)
+for_house_append Near Near xs ys = refl
+for_house_append Near Far xs ys = refl
+for_house_append Far Near xs ys = refl
+for_house_append Far Far xs ys = refl
+
+module _ (J : Joint) (s : Side) (xs : List Assignment) where
+  pub none_lowers : (b : Lowest) → LowersBoth J (compute s (take 0 xs)) b b
+  none_lowers b = by s
+    where
+      by : (s : Side) → LowersBoth J (compute s (take 0 xs)) b b
+      by Near = (lowers_none (J.order Near) b.near, lowers_none (J.order Far) b.far)
+      by Far = (lowers_none (J.order Near) b.near, lowers_none (J.order Far) b.far)
+
+  abbrev label : Assignment → ℕ
+  label a = label_of (J.items s) a.target
+
+  -- the target of one assignment more
+  pub target_lowers : (i : ℕ) (b c d : Lowest) → i < length xs → LowersBoth J (compute s (take i xs)) b c → LowersBy J (λ u. for_house s u (label (get_or xs i blank) ∷ [])) c d → LowersBoth J (compute s (take (i + 1) xs)) b d
+  target_lowers i b c d h before one =
+      (more Near b.near c.near d.near before.0 one.0, more Far b.far c.far d.far before.1 one.1)
+    where
+      more : (u : Side) (b c d : Option ℕ) → Lowers (J.order u) (for_house s u (map label (take i xs))) b c → Lowers (J.order u) (for_house s u (label (get_or xs i blank) ∷ [])) c d → Lowers (J.order u) (for_house s u (map label (take (i + 1) xs))) b d
+      more u b c d before one =
+          subst (λ (l : List ℕ). Lowers (J.order u) l b d)
+          (for_house_append s u (map label (take i xs)) (label (get_or xs i blank) ∷ []) ∙ ap (for_house s u) (sym (map_more label xs i blank h)))
+          (lowers_then (J.order u) (for_house s u (map label (take i xs))) (for_house s u (label (get_or xs i blank) ∷ [])) b c d before one)

@@ -1,5 +1,5 @@
 -- What the labels given so far have as their greatest lower label, in both houses.
-use Rattle.std.specs.Prelude.{◌≡◌, ℕ, List, [], ◌++◌, map, Ok, Err, Option, Result, MatchResult}
+use Rattle.std.specs.Prelude.{◌≡◌, ℕ, List, ◌++◌, map, Ok, Err, Option, Result, MatchResult}
 use Rattle.bits.specs.Bits.{all_bits}
 use Rattle.format.specs.Formats.{read}
 use Rattle.refusal.specs.Judging.{accepted}
@@ -30,9 +30,6 @@ LowersBy J more before now =
 -- of the labels that a step gives them
 abbrev pub LowersBoth : Joint → Step → Lowest → Lowest → Type 0
 LowersBoth J x before now = LowersBy J (λ u. given J u x) before now
-
-abbrev pub NoneGiven : PartialOrder → PartialOrder → Lowest → Type 0
-NoneGiven N F b = Joined (dual N) [] b.near × Joined (dual F) [] b.far
 
 -- the greatest lower labels of all that the steps give
 abbrev pub LowestOf : Joint → List Step → Lowest → Type 0

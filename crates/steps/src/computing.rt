@@ -1,14 +1,14 @@
 ghost use Rattle.std.specs.Prelude.{◌≡◌, ◌∷◌, get_or, length};
 ghost use Rattle.refusal.specs.Judging.{each_from};
-ghost use Rattle.agreement.specs.Agreements.{agreed};
+ghost use Rattle.agreement.specs.Agreements.{joined};
 ghost use Rattle.script.specs.Lines.{blank};
 ghost use Rattle.machine.specs.Calls.{after, step};
 ghost use Rattle.machine.specs.Operations.{operands};
 ghost use Rattle.machine.specs.Places.{all_written, written};
-ghost use Rattle.machine.specs.Steps.{all_flow, all_working, assignment_write, label_of, compute as compute_step, compute_judged, flows_judged, form_judged, operation_judged, roles_judged, step_judged, step_writes, target_judged};
+ghost use Rattle.machine.specs.Steps.{all_flow, all_working, assignment_write, label_of, compute as compute_step, flows_judged, form_judged, operation_judged, roles_judged, step_judged, step_writes, target_judged};
 
 use crate::items::{check, label_of, suitable};
-use agreement::{Agreement, Item, Role};
+use agreement::{Item, Joined, Role};
 use machine::{Operation, StepFault, Values, result_of};
 use order::Order;
 use refusal::Side;
@@ -121,32 +121,17 @@ fn flows_allowed<O: Order>(
     Ok(())
 }
 
-fn judge_in_house<O: Order>(
-    order: &O,
+pub(crate) fn judge_compute<N: Order, F: Order>(
+    houses: &Joined<'_, N, F>,
     side: Side,
-    items: &[Item],
     assignments: &[Assignment],
 ) -> Result<(), StepFault>
-    ensures { result ≡ compute_judged (O.Order.meaning order.now) side items.now assignments.now }
+    ensures { result ≡ step_judged (joined N.Order.meaning F.Order.meaning houses.now) (compute_step side assignments.now) }
 {
+    let items = houses.items(side);
     well_formed(side, assignments)?;
     all_working(side, items, assignments)?;
-    flows_allowed(order, side, items, assignments)
-}
-
-pub(crate) fn judge_compute<N: Order, F: Order>(
-    near: &N,
-    far: &F,
-    agreement: &Agreement<'_>,
-    side: Side,
-    assignments: &[Assignment],
-) -> Result<(), StepFault>
-    ensures { result ≡ step_judged (agreed (N.Order.meaning near.now) (F.Order.meaning far.now) agreement.now) (compute_step side assignments.now) }
-{
-    match side {
-        Side::Near => judge_in_house(near, side, agreement.near_items, assignments),
-        Side::Far => judge_in_house(far, side, agreement.far_items, assignments),
-    }
+    flows_allowed(&houses.house(side), side, items, assignments)
 }
 
 fn assign(values: &mut Values, side: Side, assignment: &Assignment)
@@ -169,17 +154,15 @@ pub(crate) fn assign_all(values: &mut Values, side: Side, assignments: &[Assignm
 
 // Assignments on working items of one house, judged together and then done.
 pub fn compute<N: Order, F: Order>(
-    near: &N,
-    far: &F,
-    agreement: &Agreement<'_>,
+    houses: &Joined<'_, N, F>,
     values: &mut Values,
     side: Side,
     assignments: &[Assignment],
 ) -> Result<(), StepFault>
-    ensures answer { result ≡ step_judged (agreed (N.Order.meaning near.now) (F.Order.meaning far.now) agreement.now) (compute_step side assignments.now) }
-    ensures values { values.new ≡ after (agreed (N.Order.meaning near.now) (F.Order.meaning far.now) agreement.now) values.old (step (compute_step side assignments.now)) }
+    ensures answer { result ≡ step_judged (joined N.Order.meaning F.Order.meaning houses.now) (compute_step side assignments.now) }
+    ensures values { values.new ≡ after (joined N.Order.meaning F.Order.meaning houses.now) values.old (step (compute_step side assignments.now)) }
 {
-    judge_compute(near, far, agreement, side, assignments)?;
+    judge_compute(houses, side, assignments)?;
     assign_all(values, side, assignments);
     Ok(())
 }

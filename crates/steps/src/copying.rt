@@ -1,29 +1,48 @@
 ghost use Rattle.std.specs.Prelude.{◌≡◌};
+ghost use Rattle.agreement.specs.Agreements.{joined};
 ghost use Rattle.machine.specs.Places.{place, written};
-ghost use Rattle.machine.specs.Steps.{copy_judged, copy_write, move_judged};
+ghost use Rattle.machine.specs.Steps.{copy_judged, copy_write, move, step_judged};
 
 use crate::items::{check, label_of, suitable};
-use agreement::{Item, Role, move_allowed};
+use agreement::{Joined, Role};
 use machine::{StepFault, Values};
 use order::Order;
 use refusal::Side;
 
-// A copy inside a house, from an item of one role to one of another.
-pub(crate) fn judge_copy<O: Order>(
-    order: &O,
+// The roles of the items of a copy inside a house.
+#[derive(Clone, Copy)]
+pub(crate) struct Roles {
+    pub to: Role,
+    pub from: Role,
+}
+
+pub(crate) const FETCH: Roles = Roles {
+    to: Role::Working,
+    from: Role::Import,
+};
+
+pub(crate) const STORE: Roles = Roles {
+    to: Role::Export,
+    from: Role::Working,
+};
+
+// A copy inside one of the houses.
+pub(crate) fn judge_copy<N: Order, F: Order>(
+    houses: &Joined<'_, N, F>,
     side: Side,
-    items: &[Item],
-    to: Role,
-    from: Role,
+    roles: Roles,
     target: u64,
     source: u64,
 ) -> Result<(), StepFault>
-    ensures { result ≡ copy_judged (O.Order.meaning order.now) side items.now to from target source }
+    ensures { result ≡ copy_judged ((joined N.Order.meaning F.Order.meaning houses.now).order side) side ((joined N.Order.meaning F.Order.meaning houses.now).items side) roles.to roles.from target source }
 {
+    let Roles { to, from } = roles;
+    let house = houses.house(side);
+    let items = houses.items(side);
     suitable(side, items, target, Some(to))?;
     suitable(side, items, source, Some(from))?;
     check(
-        order.flows(label_of(items, source), label_of(items, target)),
+        house.flows(label_of(items, source), label_of(items, target)),
         StepFault::NotAllowed {
             side: Some(side),
             target,
@@ -33,24 +52,21 @@ pub(crate) fn judge_copy<O: Order>(
 }
 
 // A copy from an export of the house of a side to an import of the other house.
-pub(crate) fn judge_move<P: Order, Q: Order>(
-    from: &P,
-    to: &Q,
-    map: &[u64],
+pub(crate) fn judge_move<N: Order, F: Order>(
+    houses: &Joined<'_, N, F>,
     side: Side,
-    sources: &[Item],
-    targets: &[Item],
     target: u64,
     source: u64,
 ) -> Result<(), StepFault>
-    ensures { result ≡ move_judged (P.Order.meaning from.now) (Q.Order.meaning to.now) map.now side sources.now targets.now target source }
+    ensures { result ≡ step_judged (joined N.Order.meaning F.Order.meaning houses.now) (move side target source) }
 {
+    let sources = houses.items(side);
+    let targets = houses.items(side.other());
     suitable(side.other(), targets, target, Some(Role::Import))?;
     suitable(side, sources, source, Some(Role::Export))?;
-    let given = label_of(sources, source);
-    let wanted = label_of(targets, target);
+    let map = houses.trip(side).across();
     check(
-        move_allowed(from, to, map, given, wanted),
+        map.allows(label_of(sources, source), label_of(targets, target)),
         StepFault::NotAllowed {
             side: None,
             target,

@@ -2,7 +2,7 @@ ghost use Rattle.std.specs.Prelude.{◌≡◌};
 ghost use Rattle.refusal.specs.Judging.{check};
 ghost use Rattle.machine.specs.Steps.{item_judged, label_of, serves};
 
-use agreement::{Item, Role, role_number};
+use agreement::{Item, Role};
 use machine::StepFault;
 use refusal::Side;
 
@@ -24,7 +24,7 @@ pub(crate) fn label_of(items: &[Item], item: u64) -> u64
 fn serves(needed: Option<Role>, role: u64) -> bool
     ensures { result ≡ serves needed role }
 {
-    needed.is_none_or(|needed| role == role_number(Some(needed)))
+    needed.is_none_or(|needed| role == u64::from(needed))
 }
 
 // Whether there is such an item, with the role that is needed.

@@ -1,15 +1,15 @@
-ghost use Rattle.std.specs.Prelude.{◌≡◌, true, is_ok};
+ghost use Rattle.std.specs.Prelude.{◌≡◌, true, [], is_ok};
 ghost use Rattle.bits.specs.Bits.{all_bits};
 ghost use Rattle.format.specs.Formats.{read};
-ghost use Rattle.agreement.specs.Agreements.{agreed};
+ghost use Rattle.agreement.specs.Agreements.{joined};
 ghost use Rattle.script.specs.Scripts.{script};
 ghost use Rattle.machine.specs.Calls.{after, run, script_judged, script_writes};
 ghost use Rattle.machine.specs.Places.{all_written};
-ghost use Rattle.steps.specs.Folds.{JudgesLines, JudgesNext, NoneGiven};
+ghost use Rattle.steps.specs.Folds.{JudgesLines, JudgesNext, LowestOf};
 
 use crate::lines::{do_line, judge_line};
 use crate::typing::{Lowest, lowered_by_line, type_label};
-use agreement::Agreement;
+use agreement::Joined;
 use bits::Reader;
 use machine::{LineFault, RunFault, ScriptType, Values};
 use order::{Bound, Lattice, bound_of_none};
@@ -20,67 +20,61 @@ type Judged = Result<Lowest, LineFault>;
 
 // The judgement with one line more; after a refusal no line is looked at.
 fn judge_next<N: Lattice, F: Lattice>(
-    near: &N,
-    far: &F,
-    agreement: &Agreement<'_>,
+    houses: &Joined<'_, N, F>,
     judged: Judged,
     number: u64,
     line: &Line,
 ) -> Judged
-    ensures { JudgesNext (agreed (N.Order.meaning near.now) (F.Order.meaning far.now) agreement.now) judged number line.now result }
+    ensures { JudgesNext (joined N.Order.meaning F.Order.meaning houses.now) judged number line.now result }
 {
     let lowest = judged?;
-    judge_line(near, far, agreement, line).map_err(|fault| LineFault {
+    judge_line(houses, line).map_err(|fault| LineFault {
         line: number,
         fault,
     })?;
-    Ok(lowered_by_line(near, far, agreement, lowest, line))
+    Ok(lowered_by_line(houses, lowest, line))
 }
 
 // Before the first line no label was given.
-fn none_judged<N: Lattice, F: Lattice>(near: &N, far: &F) -> Lowest
-    ensures { NoneGiven (N.Order.meaning near.now) (F.Order.meaning far.now) result }
+fn none_judged<N: Lattice, F: Lattice>(houses: &Joined<'_, N, F>) -> Lowest
+    ensures { LowestOf (joined N.Order.meaning F.Order.meaning houses.now) [] result }
 {
     Lowest {
-        near: Some(bound_of_none(near, Bound::Meet)),
-        far: Some(bound_of_none(far, Bound::Meet)),
+        near: Some(bound_of_none(houses.near, Bound::Meet)),
+        far: Some(bound_of_none(houses.far, Bound::Meet)),
     }
 }
 
 // Reads all lines of a script, and judges each as it is read.
 fn judge_lines<N: Lattice, F: Lattice>(
-    near: &N,
-    far: &F,
-    agreement: &Agreement<'_>,
+    houses: &Joined<'_, N, F>,
     bytes: &[u8],
     at: u128,
 ) -> Result<Judged, ScriptFault>
-    ensures { JudgesLines (agreed (N.Order.meaning near.now) (F.Order.meaning far.now) agreement.now) bytes.now at result }
+    ensures { JudgesLines (joined N.Order.meaning F.Order.meaning houses.now) bytes.now at result }
 {
     let mut reader = Reader::new(bytes, at);
     let count = line_count(&mut reader)?;
-    let mut judged = Ok(none_judged(near, far));
+    let mut judged = Ok(none_judged(houses));
     for place in 0..count {
         let line = numbered_line(&mut reader, place + 1)?;
-        judged = judge_next(near, far, agreement, judged, place + 1, &line);
+        judged = judge_next(houses, judged, place + 1, &line);
     }
     Ok(judged)
 }
 
 // Reads all lines of a script, and judges them in order: a field that cannot be read is refused before any line.
 pub fn judge_script<N: Lattice, F: Lattice>(
-    near: &N,
-    far: &F,
-    agreement: &Agreement<'_>,
+    houses: &Joined<'_, N, F>,
     bytes: &[u8],
     at: u128,
 ) -> Result<ScriptType, RunFault>
-    ensures { result ≡ script_judged (agreed (N.Order.meaning near.now) (F.Order.meaning far.now) agreement.now) bytes.now at }
+    ensures { result ≡ script_judged (joined N.Order.meaning F.Order.meaning houses.now) bytes.now at }
 {
-    let lowest = judge_lines(near, far, agreement, bytes, at)??;
+    let lowest = judge_lines(houses, bytes, at)??;
     Ok(ScriptType {
-        near: type_label(near, lowest.near),
-        far: type_label(far, lowest.far),
+        near: type_label(houses.near, lowest.near),
+        far: type_label(houses.far, lowest.far),
     })
 }
 
@@ -103,17 +97,15 @@ fn do_script(values: &mut Values, bytes: &[u8], at: u128)
 
 // Judges a script, then does every line of it, or does nothing.
 pub fn run_script<N: Lattice, F: Lattice>(
-    near: &N,
-    far: &F,
-    agreement: &Agreement<'_>,
+    houses: &Joined<'_, N, F>,
     values: &mut Values,
     bytes: &[u8],
     at: u128,
 ) -> Result<ScriptType, RunFault>
-    ensures answer { result ≡ script_judged (agreed (N.Order.meaning near.now) (F.Order.meaning far.now) agreement.now) bytes.now at }
-    ensures values { values.new ≡ after (agreed (N.Order.meaning near.now) (F.Order.meaning far.now) agreement.now) values.old (run bytes.now at) }
+    ensures answer { result ≡ script_judged (joined N.Order.meaning F.Order.meaning houses.now) bytes.now at }
+    ensures values { values.new ≡ after (joined N.Order.meaning F.Order.meaning houses.now) values.old (run bytes.now at) }
 {
-    let judged = judge_script(near, far, agreement, bytes, at)?;
+    let judged = judge_script(houses, bytes, at)?;
     do_script(values, bytes, at);
     Ok(judged)
 }

@@ -1,31 +1,32 @@
 ghost use Rattle.std.specs.Prelude.{◌≡◌};
-ghost use Rattle.agreement.specs.Agreements.{agreed};
+ghost use Rattle.agreement.specs.Agreements.{joined};
 ghost use Rattle.machine.specs.Calls.{if_accepted};
 ghost use Rattle.machine.specs.Places.{held, place};
 ghost use Rattle.machine.specs.Steps.{show_judged};
 
 use crate::items::{check, label_of, suitable};
-use agreement::{Agreement, Item};
+use agreement::Joined;
 use machine::{StepFault, Values};
 use order::Order;
 use refusal::Side;
 
-fn judge_show<O: Order>(
-    order: &O,
+fn judge_show<N: Order, F: Order>(
+    houses: &Joined<'_, N, F>,
     side: Side,
-    items: &[Item],
     label: u64,
     item: u64,
 ) -> Result<(), StepFault>
-    ensures { result ≡ show_judged (O.Order.meaning order.now) side items.now label item }
+    ensures { result ≡ show_judged ((joined N.Order.meaning F.Order.meaning houses.now).order side) side ((joined N.Order.meaning F.Order.meaning houses.now).items side) label item }
 {
+    let house = houses.house(side);
+    let items = houses.items(side);
     check(
-        label < order.count(),
+        label < house.count(),
         StepFault::UnknownLabel { side, label },
     )?;
     suitable(side, items, item, None)?;
     check(
-        order.flows(label_of(items, item), label),
+        house.flows(label_of(items, item), label),
         StepFault::NotAllowed {
             side: Some(side),
             target: item,
@@ -36,19 +37,14 @@ fn judge_show<O: Order>(
 
 // The value of an item, for somebody cleared for a label of its house.
 pub fn show<N: Order, F: Order>(
-    near: &N,
-    far: &F,
-    agreement: &Agreement<'_>,
+    houses: &Joined<'_, N, F>,
     values: &Values,
     side: Side,
     label: u64,
     item: u64,
 ) -> Result<u64, StepFault>
-    ensures { result ≡ if_accepted (show_judged ((agreed (N.Order.meaning near.now) (F.Order.meaning far.now) agreement.now).order side) side ((agreed (N.Order.meaning near.now) (F.Order.meaning far.now) agreement.now).items side) label item) (held values.now (place side item)) }
+    ensures { result ≡ if_accepted (show_judged ((joined N.Order.meaning F.Order.meaning houses.now).order side) side ((joined N.Order.meaning F.Order.meaning houses.now).items side) label item) (held values.now (place side item)) }
 {
-    match side {
-        Side::Near => judge_show(near, side, agreement.near_items, label, item)?,
-        Side::Far => judge_show(far, side, agreement.far_items, label, item)?,
-    }
+    judge_show(houses, side, label, item)?;
     Ok(values.get(side, item))
 }

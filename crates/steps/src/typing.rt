@@ -1,12 +1,12 @@
-ghost use Rattle.std.specs.Prelude.{◌≡◌, [], ◌∷◌, map};
-ghost use Rattle.agreement.specs.Agreements.{agreed, by_side};
+ghost use Rattle.std.specs.Prelude.{◌≡◌, [], ◌∷◌};
+ghost use Rattle.agreement.specs.Agreements.{joined};
 ghost use Rattle.machine.specs.Calls.{line_step};
-ghost use Rattle.machine.specs.Steps.{compute, label_of};
+ghost use Rattle.machine.specs.Steps.{compute, label_of, move};
 ghost use Rattle.machine.specs.Types.{for_house, or_top};
 ghost use Rattle.steps.specs.Folds.{Lowers, LowersBoth, LowersBy};
 
 use crate::items::label_of;
-use agreement::{Agreement, Item};
+use agreement::Joined;
 use order::{Bound, Lattice, bound_of_none, bound_of_two};
 use refusal::Side;
 use script::{Assignment, Line};
@@ -25,122 +25,78 @@ fn lowered<L: Lattice>(lattice: &L, bound: Option<u64>, label: u64) -> Option<u6
     bound_of_two(lattice, Bound::Meet, bound?, label)
 }
 
-// The labels of the targets of a compute.
-fn lowered_by_targets<L: Lattice>(
-    lattice: &L,
-    bound: Option<u64>,
-    items: &[Item],
-    assignments: &[Assignment],
-) -> Option<u64>
-    ensures { Lowers (L.Order.meaning lattice.now) (map (λ a. label_of items.now a.target) assignments.now) bound result }
+// The label of an item of one of the houses.
+fn lowered_by_item<N: Lattice, F: Lattice>(
+    houses: &Joined<'_, N, F>,
+    lowest: Lowest,
+    side: Side,
+    item: u64,
+) -> Lowest
+    ensures { LowersBy (joined N.Order.meaning F.Order.meaning houses.now) (λ u. for_house side u (label_of ((joined N.Order.meaning F.Order.meaning houses.now).items side) item ∷ [])) lowest result }
 {
-    let mut lowest = bound;
-    for assignment in assignments {
-        lowest = lowered(lattice, lowest, label_of(items, assignment.target));
+    let label = label_of(houses.items(side), item);
+    match side {
+        Side::Near => Lowest {
+            near: lowered(houses.near, lowest.near, label),
+            ..lowest
+        },
+        Side::Far => Lowest {
+            far: lowered(houses.far, lowest.far, label),
+            ..lowest
+        },
     }
-    lowest
 }
 
-// The labels of the targets of a compute in one of the houses.
+// The labels of the targets of a compute.
 fn lowered_by_compute<N: Lattice, F: Lattice>(
-    near: &N,
-    far: &F,
-    agreement: &Agreement<'_>,
+    houses: &Joined<'_, N, F>,
     lowest: Lowest,
     side: Side,
     assignments: &[Assignment],
 ) -> Lowest
-    ensures { LowersBoth (agreed (N.Order.meaning near.now) (F.Order.meaning far.now) agreement.now) (compute side assignments.now) lowest result }
+    ensures { LowersBoth (joined N.Order.meaning F.Order.meaning houses.now) (compute side assignments.now) lowest result }
 {
-    let Lowest {
-        near: near_bound,
-        far: far_bound,
-    } = lowest;
-    match side {
-        Side::Near => Lowest {
-            near: lowered_by_targets(near, near_bound, agreement.near_items, assignments),
-            far: far_bound,
-        },
-        Side::Far => Lowest {
-            near: near_bound,
-            far: lowered_by_targets(far, far_bound, agreement.far_items, assignments),
-        },
+    let mut lowered = lowest;
+    for assignment in assignments {
+        lowered = lowered_by_item(houses, lowered, side, assignment.target);
     }
+    lowered
 }
 
-// The label of the target of a copy inside one of the houses.
-fn lowered_by_copy<N: Lattice, F: Lattice>(
-    near: &N,
-    far: &F,
-    agreement: &Agreement<'_>,
+// The labels of both items of a copy out of the house of a side.
+fn lowered_by_move<N: Lattice, F: Lattice>(
+    houses: &Joined<'_, N, F>,
     lowest: Lowest,
     side: Side,
     target: u64,
+    source: u64,
 ) -> Lowest
-    ensures { LowersBy (agreed (N.Order.meaning near.now) (F.Order.meaning far.now) agreement.now) (λ u. for_house side u (label_of ((agreed (N.Order.meaning near.now) (F.Order.meaning far.now) agreement.now).items side) target ∷ [])) lowest result }
+    ensures { LowersBoth (joined N.Order.meaning F.Order.meaning houses.now) (move side target source) lowest result }
 {
-    let Lowest {
-        near: near_bound,
-        far: far_bound,
-    } = lowest;
-    match side {
-        Side::Near => Lowest {
-            near: lowered(near, near_bound, label_of(agreement.near_items, target)),
-            far: far_bound,
-        },
-        Side::Far => Lowest {
-            near: near_bound,
-            far: lowered(far, far_bound, label_of(agreement.far_items, target)),
-        },
-    }
-}
-
-// The labels of both items of a copy across.
-fn lowered_by_move<N: Lattice, F: Lattice>(
-    near: &N,
-    far: &F,
-    agreement: &Agreement<'_>,
-    lowest: Lowest,
-    near_item: u64,
-    far_item: u64,
-) -> Lowest
-    ensures { LowersBy (agreed (N.Order.meaning near.now) (F.Order.meaning far.now) agreement.now) (λ u. label_of ((agreed (N.Order.meaning near.now) (F.Order.meaning far.now) agreement.now).items u) (by_side near_item far_item u) ∷ []) lowest result }
-{
-    Lowest {
-        near: lowered(near, lowest.near, label_of(agreement.near_items, near_item)),
-        far: lowered(far, lowest.far, label_of(agreement.far_items, far_item)),
-    }
+    let given = lowered_by_item(houses, lowest, side, source);
+    lowered_by_item(houses, given, side.other(), target)
 }
 
 // The labels that a line gives both houses.
 pub(crate) fn lowered_by_line<N: Lattice, F: Lattice>(
-    near: &N,
-    far: &F,
-    agreement: &Agreement<'_>,
+    houses: &Joined<'_, N, F>,
     lowest: Lowest,
     line: &Line,
 ) -> Lowest
-    ensures { LowersBoth (agreed (N.Order.meaning near.now) (F.Order.meaning far.now) agreement.now) (line_step line.now) lowest result }
+    ensures { LowersBoth (joined N.Order.meaning F.Order.meaning houses.now) (line_step line.now) lowest result }
 {
     match line {
         Line::Compute { side, assignments } => {
-            lowered_by_compute(near, far, agreement, lowest, *side, assignments.as_slice())
+            lowered_by_compute(houses, lowest, *side, assignments.as_slice())
         }
-        Line::Fetch {
-            side,
-            target,
-            source: _,
+        Line::Fetch { side, target, .. } | Line::Store { side, target, .. } => {
+            lowered_by_item(houses, lowest, *side, *target)
         }
-        | Line::Store {
-            side,
-            target,
-            source: _,
-        } => lowered_by_copy(near, far, agreement, lowest, *side, *target),
         Line::Outward { target, source } => {
-            lowered_by_move(near, far, agreement, lowest, *source, *target)
+            lowered_by_move(houses, lowest, Side::Near, *target, *source)
         }
         Line::Inward { target, source } => {
-            lowered_by_move(near, far, agreement, lowest, *target, *source)
+            lowered_by_move(houses, lowest, Side::Far, *target, *source)
         }
     }
 }

@@ -1,6 +1,6 @@
 use Rattle.std.proofs.Common.{ℕ, ◌+◌, [], ◌∷◌, ◌++◌, sym, refl, ap, subst}
 use Rattle.refusal.proofs.Judging.{break_is}
-use Rattle.agreement.specs.Agreements.{agreed}
+use Rattle.agreement.specs.Agreements.{joined}
 use Rattle.steps.specs.Folds.{JudgesLines}
 use Rattle.steps.proofs.Accepting.{judged_push}
 use Rattle.steps.proofs.Rereading.{counted, uncounted, lines_start, lines_more, script_stops, script_ends}
@@ -8,7 +8,7 @@ use Rattle.steps.proofs.scripts.judge_lines.Goals as goal
 
 pub returns-in_err-count : goal.returns-in_err-count
 returns-in_err-count g c =
-    let J = agreed (g.N.Order.meaning c.args.near.now) (g.F.Order.meaning c.args.far.now) c.args.agreement.now in
+    let J = joined g.N.Order.meaning g.F.Order.meaning c.args.houses.now in
     let e = c.in_err-count.field-0.0 in
     subst (JudgesLines J c.args.bytes.now c.args.at) (sym (break_is c.from_residual.result e c.from_residual.ensures.1))
     (uncounted c.new-reader.result c.new-reader.ensures.bytes c.new-reader.ensures.at e c.in_err-count.ensures.value)
@@ -18,7 +18,7 @@ loop-place-init g c = ([], lines_start c.in_ok-count.count c.line_count.new.read
 
 pub returns-in_err-line : goal.returns-in_err-line
 returns-in_err-line g c =
-    let J = agreed (g.N.Order.meaning c.args.near.now) (g.F.Order.meaning c.args.far.now) c.args.agreement.now in
+    let J = joined g.N.Order.meaning g.F.Order.meaning c.args.houses.now in
     let e = c.in_err-line.field-0.0 in
     let first = c.in_ok-count.ensures in
     let whole = counted c.new-reader.result c.new-reader.ensures.bytes c.new-reader.ensures.at c.in_ok-count.count c.line_count.new.reader first.bytes first.value in
@@ -27,7 +27,7 @@ returns-in_err-line g c =
 
 pub loop-place-preserved : goal.loop-place-preserved
 loop-place-preserved g c =
-    let J = agreed (g.N.Order.meaning c.args.near.now) (g.F.Order.meaning c.args.far.now) c.args.agreement.now in
+    let J = joined g.N.Order.meaning g.F.Order.meaning c.args.houses.now in
     let ls = c.loop-place.invariant.0 in
     let so_far = c.loop-place.invariant.1 in
     let got = c.in_ok-line.ensures in

@@ -1,5 +1,5 @@
 use Rattle.std.proofs.Common.{List}
-use Rattle.agreement.specs.Agreements.{agreed}
+use Rattle.agreement.specs.Agreements.{joined}
 use Rattle.script.specs.declared.line.Line.{Line}
 use Rattle.steps.specs.Folds.{JudgedSo}
 use Rattle.steps.proofs.Rereading.{LinesRead}
@@ -7,5 +7,5 @@ use Rattle.steps.proofs.scripts.judge_lines.Given as goal
 
 abbrev pub invariant-loop-place : goal.invariant-loop-place
 invariant-loop-place g l =
-    let J = agreed (g.N.Order.meaning l.near) (g.F.Order.meaning l.far) l.agreement in
+    let J = joined g.N.Order.meaning g.F.Order.meaning l.houses in
     (ls : List Line) × LinesRead l.count l.initial.reader l.place l.reader ls × JudgedSo J ls l.judged

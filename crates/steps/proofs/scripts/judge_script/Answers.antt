@@ -3,7 +3,7 @@ use Rattle.refusal.proofs.Judging.{break_is}
 use Rattle.refusal.specs.declared.Side.TheVariants.{Near, Far}
 use Rattle.order.specs.Orders.{dual}
 use Rattle.order.proofs.Searches.{supremum_is}
-use Rattle.agreement.specs.Agreements.{agreed}
+use Rattle.agreement.specs.Agreements.{joined}
 use Rattle.machine.specs.Calls.{line_step}
 use Rattle.machine.specs.Types.{all_given, or_top}
 use Rattle.machine.specs.declared.fault.RunFault.TheVariants.{Unreadable, Line as in_line}
@@ -13,14 +13,14 @@ use Rattle.steps.proofs.scripts.judge_script.Goals as goal
 
 pub returns-in_err-judge_lines : goal.returns-in_err-judge_lines
 returns-in_err-judge_lines g c =
-    let J = agreed (g.N.Order.meaning c.args.near.now) (g.F.Order.meaning c.args.far.now) c.args.agreement.now in
+    let J = joined g.N.Order.meaning g.F.Order.meaning c.args.houses.now in
     let e = c.in_err-judge_lines.field-0.0 in
     break_is c.from_residual.result (Unreadable e) c.from_residual.ensures.1
     ∙ sym (script_unread J c.args.bytes.now c.args.at e c.in_err-judge_lines.ensures)
 
 pub returns-in_err-lowest : goal.returns-in_err-lowest
 returns-in_err-lowest g c =
-    let J = agreed (g.N.Order.meaning c.args.near.now) (g.F.Order.meaning c.args.far.now) c.args.agreement.now in
+    let J = joined g.N.Order.meaning g.F.Order.meaning c.args.houses.now in
     let e = c.in_err-lowest.field-0.0 in
     let got = c.in_ok-judge_lines.ensures in
     break_is c.from_residual-in_err-lowest.result (in_line e) c.from_residual-in_err-lowest.ensures.1
@@ -28,14 +28,12 @@ returns-in_err-lowest g c =
 
 pub returns : goal.returns
 returns g c =
-    let N = g.N.Order.meaning c.args.near.now in
-    let F = g.F.Order.meaning c.args.far.now in
-    let J = agreed N F c.args.agreement.now in
+    let J = joined g.N.Order.meaning g.F.Order.meaning c.args.houses.now in
     let got = c.in_ok-judge_lines.ensures in
     let b = c.in_ok-lowest.lowest in
     let judged = subst (JudgedSo J got.0) {x = c.in_ok-judge_lines.field-0} {y = Ok b} c.in_ok-lowest.was got.3 in
     let steps = map line_step got.0 in
     ap₂ (λ (x y : ℕ). Ok (record { near = x; far = y }))
-    (c.type_label.ensures ∙ ap (or_top N) (supremum_is (dual N) (all_given J Near steps) b.near judged.1.0))
-    (c.type_label-2.ensures ∙ ap (or_top F) (supremum_is (dual F) (all_given J Far steps) b.far judged.1.1))
+    (c.type_label.ensures ∙ ap (or_top (J.order Near)) (supremum_is (dual (J.order Near)) (all_given J Near steps) b.near judged.1.0))
+    (c.type_label-2.ensures ∙ ap (or_top (J.order Far)) (supremum_is (dual (J.order Far)) (all_given J Far steps) b.far judged.1.1))
     ∙ sym (script_typed J c.args.bytes.now c.args.at got.0 got.1 got.2 judged.0)

@@ -1,9 +1,9 @@
 use Rattle.std.proofs.Common.{sym}
-use Rattle.agreement.specs.Agreements.{agreed}
+use Rattle.agreement.specs.Agreements.{joined}
 use Rattle.steps.proofs.Running.{script_readable}
 use Rattle.steps.proofs.scripts.run_script.Goals as goal
 
 pub do_script-requires : goal.do_script-requires
 do_script-requires g c =
-    script_readable (agreed (g.N.Order.meaning c.args.near.now) (g.F.Order.meaning c.args.far.now) c.args.agreement.now) c.args.bytes.now c.args.at
+    script_readable (joined g.N.Order.meaning g.F.Order.meaning c.args.houses.now) c.args.bytes.now c.args.at
     c.in_ok-judged.judged (sym c.in_ok-judged.ensures)
