@@ -1,6 +1,6 @@
 -- The list of the items up to a label has exactly those items, in order. Assumes nothing.
-use Rattle.std.proofs.Common.{◌≡◌, ℕ, zero, suc, ◌+◌, ◌<◌, ◌≤◌, Bool, true, false, cond, List, [], ◌∷◌, ◌++◌, length, get_or, drop, sym, refl, ap, ◌∙◌, subst, add-one, arith}
-use Rattle.std.proofs.lemmas.List.{append_assoc, append-nil, drop_more, drop_all}
+use Rattle.std.proofs.Common.{◌≡◌, ℕ, zero, suc, ◌+◌, ◌<◌, Bool, true, false, cond, List, [], ◌∷◌, length, map, filter, get_or, sym, refl, ap, ◌∙◌, subst, add-one, arith}
+use Rattle.std.specs.List.{enumerate_from}
 use Rattle.std.proofs.lemmas.Bool.{both_ways}
 use Rattle.order.specs.Orders.{PartialOrder}
 use Rattle.agreement.specs.Rules.{no_item}
@@ -68,23 +68,13 @@ module _ (P : PartialOrder) (highest : ℕ) where
         ascending = f.ascending;
       }
 
-  -- the loop: what is listed, and what is left
-  abbrev pub Left : List Item → ℕ → List ℕ → Type 0
-  Left xs k is = is ++ listed P highest k (drop k xs) ≡ listed P highest 0 xs
+  -- the numbers of the items that the test leaves
+  numbers : (b : Bool) (k : ℕ) (x : Item) (rest : List (ℕ × Item)) (is : List ℕ) → map (λ (p : ℕ × Item). p.0) rest ≡ is → map (λ (p : ℕ × Item). p.0) (cond b ((k, x) ∷ rest) rest) ≡ cond b (k ∷ is) is
+  numbers true k x rest is e = ap (λ (l : List ℕ). k ∷ l) e
+  numbers false k x rest is e = e
 
-  next : (xs : List Item) (k : ℕ) → k < length xs → listed P highest k (drop k xs) ≡ cond (up (get_or xs k no_item)) (k ∷ listed P highest (k + 1) (drop (k + 1) xs)) (listed P highest (k + 1) (drop (k + 1) xs))
-  next xs k h =
-      ap (λ (l : List Item). listed P highest k l) (drop_more xs k no_item h)
-      ∙ ap (λ (n : ℕ). cond (up (get_or xs k no_item)) (k ∷ listed P highest n (drop (k + 1) xs)) (listed P highest n (drop (k + 1) xs))) (sym (add-one k))
-
-  pub left_take : (xs : List Item) (k : ℕ) (is : List ℕ) → k < length xs → up (get_or xs k no_item) ≡ true → Left xs k is → Left xs (k + 1) (is ++ k ∷ [])
-  left_take xs k is h e l =
-      append_assoc is (k ∷ []) (listed P highest (k + 1) (drop (k + 1) xs))
-      ∙ ap (λ (r : List ℕ). is ++ r) (sym (next xs k h ∙ ap (λ (t : Bool). cond t (k ∷ listed P highest (k + 1) (drop (k + 1) xs)) (listed P highest (k + 1) (drop (k + 1) xs))) e)) ∙ l
-
-  pub left_skip : (xs : List Item) (k : ℕ) (is : List ℕ) → k < length xs → up (get_or xs k no_item) ≡ false → Left xs k is → Left xs (k + 1) is
-  left_skip xs k is h e l =
-      ap (λ (r : List ℕ). is ++ r) (sym (next xs k h ∙ ap (λ (t : Bool). cond t (k ∷ listed P highest (k + 1) (drop (k + 1) xs)) (listed P highest (k + 1) (drop (k + 1) xs))) e)) ∙ l
-
-  pub left_all : (xs : List Item) (k : ℕ) (is : List ℕ) → length xs ≤ k → Left xs k is → is ≡ listed P highest 0 xs
-  left_all xs k is h l = sym (append-nil is) ∙ ap (λ (r : List Item). is ++ listed P highest k r) (sym (drop_all k xs h)) ∙ l
+  pub listed_numbers : (k : ℕ) (xs : List Item) → map (λ (p : ℕ × Item). p.0) (filter (λ (p : ℕ × Item). up p.1) (enumerate_from k xs)) ≡ listed P highest k xs
+  listed_numbers k [] = refl
+  listed_numbers k (x ∷ xs) =
+      numbers (up x) k x (filter (λ (p : ℕ × Item). up p.1) (enumerate_from (k + 1) xs)) (listed P highest (suc k) xs)
+      (listed_numbers (k + 1) xs ∙ ap (λ (n : ℕ). listed P highest n xs) (add-one k))

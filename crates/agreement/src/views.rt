@@ -55,13 +55,12 @@ pub fn items_up_to<O: Order>(
     ensures items { IfOk result (λ v. v.items ≡ listed (O.Order.meaning order.now) highest 0 items.now) }
     ensures exact { IfOk result (λ v. Lists (O.Order.meaning order.now) highest items.now v.items) }
 {
-    let mut numbers = Vec::new(heap);
-    for (number, item) in items.iter().enumerate() {
-        if order.flows(item.label, highest) {
-            numbers.push(number as u64)?;
-        }
-    }
-    Ok(numbers)
+    items
+        .iter()
+        .enumerate()
+        .filter(|(_, item)| order.flows(item.label, highest))
+        .map(|(number, _)| number as u64)
+        .collect(heap)
 }
 
 impl<'a, N: Order, F: Order> Joined<'a, N, F> {

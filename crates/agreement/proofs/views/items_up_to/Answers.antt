@@ -1,32 +1,29 @@
-use Rattle.std.proofs.Common.{ℕ, List, ◌++◌, vec_items, sym, ap, ◌∙◌, subst}
-use Rattle.agreement.specs.Views.{listed, Lists}
-use Rattle.agreement.proofs.Listings.{left_take, left_skip, left_all, lists}
+use Rattle.std.proofs.Common.{◌≡◌, ℕ, List, map, filter, IfOk, vec_items, sym, subst, rules}
+use borrow.Author.Tests.{tests}
+use Rattle.std.specs.List.{enumerate_from}
+use Rattle.std.proofs.lemmas.Iterator.{YieldsList-from_slice, YieldsList-from_map, items_from_collect}
+use Rattle.std.proofs.lemmas.Iterator.Consumers.{YieldsList-at, YieldsList-from_filter, YieldsList-from_enumerate}
+use Rattle.std.proofs.lemmas.Result.{IfOk-weaker}
+use Rattle.agreement.specs.Views.{Lists}
+use Rattle.agreement.specs.declared.item.Item.{Item}
+use Rattle.agreement.proofs.Listings.{listed_numbers, lists}
 use Rattle.agreement.proofs.views.items_up_to.Goals as goal
-use Rattle.agreement.proofs.views.items_up_to.Goals.{then-flows+in_ok-push, else-flows}
-
-pub loop-number-init : goal.loop-number-init
-loop-number-init g c =
-    ap (λ (is : List ℕ). is ++ listed (g.O.Order.meaning c.args.order.now) c.args.highest 0 c.args.items.now) c.new-numbers.ensures.items
-
-pub loop-number-preserved : goal.loop-number-preserved
-loop-number-preserved g c =
-    let P = g.O.Order.meaning c.args.order.now in
-    let xs = c.args.items.now in
-    let k = c.loop-number.number in
-    let is = vec_items c.loop-number.numbers in
-    elim c.if-flows.branch [
-      | then-flows+in_ok-push w ↦
-          simp (w.numbers-is, w.in_ok-push.ensures.items)
-          (left_take P c.args.highest xs k is c.loop-number-test.true (sym c.flows.ensures ∙ w.if-flows.true) c.loop-number.invariant)
-      | else-flows w ↦ simp w.numbers-is (left_skip P c.args.highest xs k is c.loop-number-test.true (sym c.flows.ensures ∙ w.if-flows.false) c.loop-number.invariant)
-    ]
 
 pub returns : goal.returns
 returns g c =
     let P = g.O.Order.meaning c.args.order.now in
     let xs = c.args.items.now in
-    let all = left_all P c.args.highest xs c.loop-number.number (vec_items c.loop-number.numbers) c.loop-number-test.false c.loop-number.invariant in
+    let numbers : IfOk c.collect.result (λ v. vec_items v ≡ map (λ (p : ℕ × Item). p.0) (filter (λ (p : ℕ × Item). P.flow p.1.label c.args.highest) (enumerate_from 0 xs))) =
+    items_from_collect _ c.collect.ensures.ran
+    (YieldsList-from_map _ (λ (p : ℕ × Item). p.0)
+    (YieldsList-at c.map.ensures.source
+    (YieldsList-from_filter _ (λ (p : ℕ × Item). P.flow p.1.label c.args.highest)
+    (YieldsList-at c.filter.ensures.source (YieldsList-from_enumerate (YieldsList-from_slice xs (cc)) (cc)))
+    c.filter.ensures.closure (λ x b q k. search (rules, tests))))
+    c.map.ensures.closure (λ x r q k. search rules))
+    in
+    let all = subst (λ (is : List ℕ). IfOk c.collect.result (λ v. vec_items v ≡ is)) (listed_numbers P c.args.highest 0 xs) numbers in
     record {
       items = all;
-      exact = subst (λ (l : List ℕ). Lists P c.args.highest xs l) (sym all) (lists P c.args.highest xs);
+      exact = IfOk-weaker c.collect.result _ _ (λ v e. subst (λ (is : List ℕ). Lists P c.args.highest xs is) (sym e) (lists P c.args.highest xs)) all;
     }
