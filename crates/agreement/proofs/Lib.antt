@@ -1,4 +1,3 @@
-pub mod Found
 pub mod Listings
 pub mod Connections
 pub mod Certified

@@ -40,6 +40,7 @@ impl<'a, P: Order, Q: Order> LabelMap<'a, P, Q> {
     }
 
     // One entry for each label, and the entry is a label of the other order.
+    #[tactic(auto, using(refusal::proofs::Judging::judging))]
     pub fn total(&self) -> Result<(), Broken>
         ensures { result ≡ total_judged (P.Order.meaning self.now.from) (Q.Order.meaning self.now.to) self.now.images.now }
     {
@@ -71,22 +72,20 @@ impl<'a, P: Order, Q: Order> LabelMap<'a, P, Q> {
     }
 
     // If a flows to b, the image of a flows to the image of b.
+    #[tactic(auto, using(refusal::proofs::Judging::judging))]
     pub fn monotone(&self) -> Result<(), Broken>
         ensures { result ≡ monotone_judged (P.Order.meaning self.now.from) (Q.Order.meaning self.now.to) self.now.images.now }
     {
         let count = self.from.count();
-        let mut found = None;
+        let mut judged = Ok(());
         'pairs: for a in 0..count {
             for b in 0..count {
                 if !self.keeps_pair(a, b) {
-                    found = Some((a, b));
+                    judged = Err(Broken::NotMonotone { a, b });
                     break 'pairs;
                 }
             }
         }
-        match found {
-            Some((a, b)) => Err(Broken::NotMonotone { a, b }),
-            None => Ok(()),
-        }
+        judged
     }
 }

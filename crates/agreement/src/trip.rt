@@ -63,6 +63,7 @@ impl<'a, P: Order + Copy, Q: Order + Copy> RoundTrip<'a, P, Q> {
     }
 
     // A label flows to its round trip.
+    #[tactic(auto, using(refusal::proofs::Judging::judging))]
     pub fn rising(&self) -> Result<(), Broken>
         ensures { result ≡ rising_judged (P.Order.meaning self.now.from) (Q.Order.meaning self.now.to) self.now.out.now self.now.back.now }
     {
@@ -85,6 +86,7 @@ impl<'a, P: Order + Copy, Q: Order + Copy> RoundTrip<'a, P, Q> {
     }
 
     // Going across, back and across again is going across.
+    #[tactic(auto, using(refusal::proofs::Judging::judging))]
     pub fn stable(&self) -> Result<(), Broken>
         ensures { result ≡ stable_judged (P.Order.meaning self.now.from) (Q.Order.meaning self.now.to) self.now.out.now self.now.back.now }
     {
@@ -107,6 +109,7 @@ impl<'a, P: Order + Copy, Q: Order + Copy> RoundTrip<'a, P, Q> {
     }
 
     // At most 128 items, each with a role of at most 2, a known label, and a settled one if it is an import or export.
+    #[tactic(auto, using(refusal::proofs::Judging::judging))]
     pub fn lawful(&self, items: &[Item]) -> Result<(), Broken>
         ensures { result ≡ items_judged (P.Order.meaning self.now.from) (Q.Order.meaning self.now.to) self.now.out.now self.now.back.now items.now }
     {

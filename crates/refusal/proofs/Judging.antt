@@ -46,3 +46,6 @@ module _ {F : Type 0} where
     -- the exit of a `?`
     pub left_break : {x : F} (r : Judgement F) → k < n → Err x ≡ f k → IsErrAnd r (λ y. y ≡ x) → r ≡ whole
     left_break {x} r h e by = break_is r x by ∙ left_err h e
+
+-- what most steps of such a loop need
+pub ruleset judging = (left_none, left_after, left_more, left_err, left_all, check_at)

@@ -1,13 +1,7 @@
 use Rattle.std.proofs.Common.{arith}
-use Rattle.refusal.proofs.Judging.{check_at, left_none, left_more, left_err, left_all}
-use Rattle.agreement.specs.Rules.{stay_judged}
+use Rattle.refusal.proofs.Judging.{check_at, left_more, left_err}
 use Rattle.agreement.specs.declared.fault.Broken.TheVariants.{Drifts}
 use Rattle.agreement.proofs.trip.RoundTrip.stable.Goals as goal
-
-pub loop-label-init : goal.loop-label-init
-loop-label-init g c =
-    let P = g.P.Order.meaning c.args.self.now.from in
-    left_none (stay_judged P (g.Q.Order.meaning c.args.self.now.to) c.args.self.now.out.now c.args.self.now.back.now) P.count
 
 pub loop-label-preserved : goal.loop-label-preserved
 loop-label-preserved g c =
@@ -16,6 +10,3 @@ loop-label-preserved g c =
 pub returns-then-not-stays_at : goal.returns-then-not-stays_at
 returns-then-not-stays_at g c =
     left_err c.loop-label.invariant (omega (arith, c.count-label-end.ensures)) (check_at (Drifts c.loop-label.label) c.if-not-stays_at.ensures)
-
-pub returns : goal.returns
-returns g c = left_all c.loop-label.invariant (omega (arith, c.count-label-end.ensures))
