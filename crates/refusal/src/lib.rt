@@ -2,12 +2,13 @@
 #![tactic(auto)]
 
 ghost use Rattle.std.specs.Prelude.{◌≡◌, Some};
-ghost use Rattle.refusal.specs.Sides.{other, side_number, side_word};
+ghost use Rattle.refusal.specs.Sides.{NamedBy, other, side_number, side_word};
 
 mod refused;
 
 pub use refused::Refused;
 use std::fmt;
+use std::str::FromStr;
 
 // One of the two houses that an agreement joins.
 #[derive(Clone, Copy, PartialEq, Eq, Debug)]
@@ -17,15 +18,6 @@ pub enum Side {
 }
 
 impl Side {
-    pub fn word(self) -> &'static str
-        ensures { result.now ≡ side_word self }
-    {
-        match self {
-            Side::Near => "near",
-            Side::Far => "far",
-        }
-    }
-
     // The other side.
     pub fn other(self) -> Side
         ensures { result ≡ other self }
@@ -41,7 +33,28 @@ impl fmt::Display for Side {
     ghost output = { λ v. Some (side_word v) };
 
     fn fmt<W: fmt::Write>(&self, f: &mut fmt::Formatter<W>) -> fmt::Result {
-        f.write_str(self.word())
+        f.write_str(match self {
+            Side::Near => "near",
+            Side::Far => "far",
+        })
+    }
+}
+
+// A word that names neither side.
+#[derive(Clone, Copy, PartialEq, Eq, Debug)]
+pub struct UnknownSide;
+
+impl FromStr for Side {
+    type Err = UnknownSide;
+
+    ghost from_str_gives = { NamedBy };
+
+    fn from_str(word: &str) -> Result<Side, UnknownSide> {
+        match word {
+            "near" => Ok(Side::Near),
+            "far" => Ok(Side::Far),
+            _ => Err(UnknownSide),
+        }
     }
 }
 
