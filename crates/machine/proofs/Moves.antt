@@ -1,27 +1,25 @@
 -- A move is refused exactly where its copy would leak. Assumes nothing.
-use Rattle.std.proofs.Common.{◌≡◌, ℕ, ◌^◌, ◌<◌, Bool, true, false, ltb, length, get_or, Some, None, Err, sym, refl, ap, ◌∙◌, subst, inl, inr, arith, lit<}
+use Rattle.std.proofs.Common.{◌≡◌, ℕ, ◌^◌, ◌<◌, Bool, true, false, Some, None, Err, sym, refl, ap, ◌∙◌, subst, inl, inr, arith, lit<}
 use Rattle.std.proofs.lemmas.Bool.{lt-ltb, eq-eqb, and_from, both_ways}
-use Rattle.refusal.specs.Judging.{Judgement, accepted, ◌⨟◌, check, under}
+use Rattle.refusal.specs.Judging.{Judgement, accepted, check, under}
 use Rattle.refusal.specs.Sides.{other}
 use Rattle.refusal.specs.declared.Side.{Side}
 use Rattle.refusal.specs.declared.Side.TheVariants.{Near, Far}
 use Rattle.refusal.proofs.Judging.{check_at, then_at}
 use Rattle.agreement.specs.Agreements.{Joint}
 use Rattle.agreement.specs.Maps.{at, moves}
-use Rattle.agreement.specs.Roles.{role_number}
-use Rattle.agreement.specs.Rules.{no_item}
 use Rattle.agreement.specs.Views.{view_at, highest_in, view_in}
 use Rattle.agreement.specs.declared.item.Role.{Role}
 use Rattle.agreement.specs.declared.item.Role.TheVariants.{Import, Export}
 use Rattle.agreement.specs.declared.views.View.{View}
 use Rattle.machine.specs.Places.{Place, place, held, written}
-use Rattle.machine.specs.Steps.{move, serves, item_judged, label_of, copy_write, step_judged, step_writes}
+use Rattle.machine.specs.Steps.{move, item_judged, label_of, copy_write, step_judged, step_writes}
 use Rattle.machine.specs.Calls.{step, done, fixed, if_accepted, answered, answer, Answer}
 use Rattle.machine.specs.Openings.{Opening, start}
 use Rattle.machine.specs.Secrets.{item_at, HasRole, Sees, Leak, RefusedOnlyWhereItWouldLeak}
 use Rattle.machine.specs.declared.fault.CallFault.TheVariants.{Step as in_step}
 use Rattle.machine.specs.declared.fault.StepFault.{StepFault}
-use Rattle.machine.specs.declared.fault.StepFault.TheVariants.{Unsuitable, NotAllowed}
+use Rattle.machine.specs.declared.fault.StepFault.TheVariants.{NotAllowed}
 use Rattle.machine.specs.declared.values.Values.{Values}
 use Rattle.machine.proofs.Facts.{Facts, total, monotone, items, lawful}
 use Rattle.machine.proofs.Places.{held_put}
@@ -32,9 +30,7 @@ use Rattle.machine.proofs.Openings.{start_sized, probe, probe_there, probe_elsew
 
 -- a known item of the role is suitable
 suitable : (J : Joint) (s : Side) (i : ℕ) (r : Role) → HasRole J (place s i) r → item_judged s (J.items s) i (Some r) ≡ accepted
-suitable J s i r has =
-    check_at (Unsuitable s i (Some r))
-    (and_from (ltb i (length (J.items s))) (serves (Some r) (get_or (J.items s) i no_item).role) (lt-ltb i (length (J.items s)) has.0) (eq-eqb (get_or (J.items s) i no_item).role (role_number (Some r)) has.1))
+suitable J s i r has = check_at _ (and_from _ _ (lt-ltb _ _ has.0) (eq-eqb _ _ has.1))
 
 other_other : (s : Side) → other (other s) ≡ s
 other_other Near = refl
@@ -54,9 +50,7 @@ module _ {J : Joint} (F : Facts J) (s : Side) (t q : ℕ) (target : HasRole J (p
   allowed = moves (J.order s) (J.order (other s)) (J.map s) (label_of (J.items s) q) (label_of (J.items (other s)) t)
 
   judged_so : step_judged J (move s t q) ≡ check allowed (NotAllowed None t q)
-  judged_so =
-      then_at (item_judged s (J.items s) q (Some Export) ⨟ check allowed (NotAllowed None t q)) (suitable J (other s) t Import target)
-      ∙ then_at (check allowed (NotAllowed None t q)) (suitable J s q Export source)
+  judged_so = then_at _ (suitable J (other s) t Import target) ∙ then_at _ (suitable J s q Export source)
 
   -- the answer by whether the move is allowed
   abbrev answer_by : Values → Bool → Answer
@@ -97,16 +91,11 @@ module _ {J : Joint} (F : Facts J) (s : Side) (t q : ℕ) (target : HasRole J (p
   -- where the reader sees the source, the move is allowed
   source_seen : Sees J reader_view s (label_of (J.items s) q) → allowed ≡ true
   source_seen sees =
-      let P = J.order s in
-      let Q = J.order (other s) in
-      let below : P.flow (label_of (J.items s) q) (at (J.map (other s)) label) ≡ true = subst (λ (x : ℕ). P.flow (label_of (J.items s) q) x ≡ true) (across_highest s label (at (J.map (other s)) label)) sees in
-      let carried = monotone F s (label_of (J.items s) q) (at (J.map (other s)) label) below in
-      moves_from P Q (J.map s) (label_of (J.items s) q) label (total F s) (lawful F (place s q) source.0).label
-      (subst (λ (x : ℕ). Q.flow (at (J.map s) (label_of (J.items s) q)) x ≡ true) to_settled carried)
+      let below : (J.order s).flow (label_of (J.items s) q) (at (J.map (other s)) label) ≡ true = rw across_highest at sees in
+      moves_from _ _ _ _ _ (total F s) (lawful F (place s q) source.0).label (rw to_settled at (monotone F s _ _ below))
 
   reader_sees_target : Sees J reader_view (other s) label
-  reader_sees_target =
-      subst (λ (x : ℕ). (J.order (other s)).flow label x ≡ true) (sym (own_highest (other s) label (at (J.map (other s)) label))) ((J.order (other s)).reflexive label to_known)
+  reader_sees_target = rw own_highest ((J.order (other s)).reflexive label to_known)
 
   abbrev holding : (x : ℕ) → x < 2 ^ 64 → Opening J
   holding x h = probe F s q x h
@@ -135,7 +124,7 @@ module _ {J : Joint} (F : Facts J) (s : Side) (t q : ℕ) (target : HasRole J (p
   exact v = ((λ refused. leaks allowed refl (sym (answered_so v) ∙ refused)), λ leak. answered_so v ∙ refuses allowed refl leak)
     where
       leaks : (b : Bool) → allowed ≡ b → answer_by v b ≡ Err (in_step (NotAllowed None t q)) → Leak J (place (other s) t) (place s q)
-      leaks true e refused = let z : ◌≡◌ {A = ℕ} 0 1 = cc in absurd (omega arith)
+      leaks true e refused = absurd cc
       leaks false e refused = refused_leaks e
 
       refuses : (b : Bool) → allowed ≡ b → Leak J (place (other s) t) (place s q) → answer_by v b ≡ Err (in_step (NotAllowed None t q))

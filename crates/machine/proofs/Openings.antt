@@ -1,6 +1,7 @@
 -- What openings hold, and the openings that differ in one place. Assumes nothing.
-use Rattle.std.proofs.Common.{◌≡◌, ℕ, ◌-◌, ◌^◌, ◌<◌, eqb, ◌⊎◌, List, length, get_or, set, replicate, sym, refl, ap, ◌∙◌, inl, inr, arith}
-use Rattle.std.proofs.lemmas.List.{get_or_append_left, length-set, length-replicate, get_or-set_same, get_or-set_other, get_or-replicate, get_or_past}
+use Rattle.std.proofs.Common.{◌≡◌, ℕ, ◌-◌, ◌^◌, ◌<◌, ◌⊎◌, List, length, get_or, set, replicate, sym, refl, ap, ◌∙◌, inl, inr, arith, rules}
+use Rattle.std.proofs.lemmas.Grind.{common_steps}
+use Rattle.std.proofs.lemmas.List.{places, get_or_append_left, length-set, length-replicate, get_or-set_same, get_or-set_other, get_or-replicate, get_or_past}
 use Rattle.std.proofs.lemmas.Bool.{eqb-true, eq-eqb, cases_eq, cases_lt}
 use Rattle.fixed.specs.Lists.{padded}
 use Rattle.format.proofs.Loops.{length_padded}
@@ -11,9 +12,8 @@ use Rattle.refusal.proofs.Accepting.{check_accepted, both_accepted}
 use Rattle.refusal.proofs.Judging.{check_at, then_at}
 use Rattle.agreement.specs.Agreements.{Joint}
 use Rattle.machine.specs.Places.{Place, place, held}
-use Rattle.machine.specs.Openings.{length_judged, opening_judged, Opening, start}
+use Rattle.machine.specs.Openings.{opening_judged, Opening, start}
 use Rattle.machine.specs.Secrets.{KnownItem}
-use Rattle.machine.specs.declared.fault.CallFault.TheVariants.{Values as wrong_length}
 use Rattle.machine.proofs.Facts.{Facts, items}
 use Rattle.machine.proofs.Places.{Sized}
 
@@ -29,11 +29,7 @@ length_zeros n = length-replicate {A = ℕ} n 0
 
 module _ {J : Joint} (F : Facts J) where
   pub opening_lengths : (near far : List ℕ) → opening_judged J near far ≡ accepted → (length near ≡ length (J.items Near)) × (length far ≡ length (J.items Far))
-  opening_lengths near far e =
-      let both = both_accepted (length_judged J Near near) (length_judged J Far far) e in (
-        eqb-true (length near) (length (J.items Near)) (check_accepted (eqb (length near) (length (J.items Near))) (wrong_length Near (length (J.items Near))) both.0),
-        eqb-true (length far) (length (J.items Far)) (check_accepted (eqb (length far) (length (J.items Far))) (wrong_length Far (length (J.items Far))) both.1),
-      )
+  opening_lengths near far e = let both = both_accepted _ _ e in (eqb-true _ _ (check_accepted _ _ both.0), eqb-true _ _ (check_accepted _ _ both.1))
 
   pub start_sized : (o : Opening J) → Sized (start o)
   start_sized o Near = length_padded 128 0 o.near (omega (arith, (opening_lengths o.near o.far o.fits).0, (items F Near).few))
@@ -47,24 +43,17 @@ module _ {J : Joint} (F : Facts J) where
   probe_in Far i x Far = set (zeros (length (J.items Far))) i x
 
   zeros_below : (n i : ℕ) → get_or (zeros n) i 0 ≡ 0
-  zeros_below n i = elim (cases_lt i n) [ inl h ↦ get_or-replicate {A = ℕ} n i 0 0 h | inr h ↦ get_or_past (zeros n) i 0 (omega (arith, length_zeros n)) ]
+  zeros_below n i = grind (arith, common_steps, places)
 
   set_below : (n i x k : ℕ) → x < 2 ^ 64 → get_or (set (zeros n) i x) k 0 < 2 ^ 64
-  set_below n i x k h =
-      elim (cases_eq k i) [
-        | inl e ↦ elim (cases_lt k n) [
-          | inl l ↦ let at : get_or (set (zeros n) i x) k 0 ≡ x = ap (λ (j : ℕ). get_or (set (zeros n) i x) j 0) e ∙ get_or-set_same (zeros n) i x 0 (omega (arith, length_zeros n)) in omega (arith, at)
-          | inr l ↦ let past : get_or (set (zeros n) i x) k 0 ≡ 0 = get_or_past (set (zeros n) i x) k 0 (omega (arith, length-set (zeros n) i x, length_zeros n)) in omega (arith, past, h)
-        ]
-        | inr ne ↦ let other : get_or (set (zeros n) i x) k 0 ≡ 0 = get_or-set_other (zeros n) i k x 0 ne ∙ zeros_below n k in omega (arith, other, h)
-      ]
+  set_below n i x k h = grind (arith, get_or-set_same, get_or-set_other, get_or_past, length-set, length-replicate, get_or-replicate, cases_eq, cases_lt)
 
   probe_length : (s : Side) (i x : ℕ) (u : Side) → length (probe_in s i x u) ≡ length (J.items u)
   unfolding probe_in
-  probe_length Near i x Near = length-set (zeros (length (J.items Near))) i x ∙ length_zeros (length (J.items Near))
-  probe_length Near i x Far = length_zeros (length (J.items Far))
-  probe_length Far i x Near = length_zeros (length (J.items Near))
-  probe_length Far i x Far = length-set (zeros (length (J.items Far))) i x ∙ length_zeros (length (J.items Far))
+  probe_length Near i x Near = search (rules, places)
+  probe_length Near i x Far = search (rules, places)
+  probe_length Far i x Near = search (rules, places)
+  probe_length Far i x Far = search (rules, places)
 
   probe_below : (s : Side) (i x : ℕ) → x < 2 ^ 64 → (u : Side) (k : ℕ) → get_or (probe_in s i x u) k 0 < 2 ^ 64
   unfolding probe_in
@@ -77,16 +66,15 @@ module _ {J : Joint} (F : Facts J) where
   probe s i x h = record {
     near = probe_in s i x Near;
     far = probe_in s i x Far;
-    fits = then_at (length_judged J Far (probe_in s i x Far)) (check_at (wrong_length Near (length (J.items Near))) (eq-eqb (length (probe_in s i x Near)) (length (J.items Near)) (probe_length s i x Near)))
-        ∙ check_at (wrong_length Far (length (J.items Far))) (eq-eqb (length (probe_in s i x Far)) (length (J.items Far)) (probe_length s i x Far));
+    fits = then_at _ (check_at _ (eq-eqb _ _ (probe_length s i x Near))) ∙ check_at _ (eq-eqb _ _ (probe_length s i x Far));
     near_below = probe_below s i x h Near;
     far_below = probe_below s i x h Far;
   }
 
   probe_held : (s : Side) (i x : ℕ) (h : x < 2 ^ 64) (u : Side) (k : ℕ) → k < length (J.items u) → held (start (probe s i x h)) (place u k) ≡ get_or (probe_in s i x u) k 0
   unfolding probe
-  probe_held s i x h Near k l = padded_at (probe_in s i x Near) k (omega (arith, probe_length s i x Near))
-  probe_held s i x h Far k l = padded_at (probe_in s i x Far) k (omega (arith, probe_length s i x Far))
+  probe_held s i x h Near k l = padded_at _ k (omega (arith, probe_length s i x Near))
+  probe_held s i x h Far k l = padded_at _ k (omega (arith, probe_length s i x Far))
 
   -- the probe holds x at its place
   pub probe_there : (s : Side) (i x : ℕ) (h : x < 2 ^ 64) → i < length (J.items s) → held (start (probe s i x h)) (place s i) ≡ x
@@ -94,8 +82,8 @@ module _ {J : Joint} (F : Facts J) where
   probe_there s i x h l = probe_held s i x h s i l ∙ at s l
     where
       at : (s : Side) → i < length (J.items s) → get_or (probe_in s i x s) i 0 ≡ x
-      at Near l = get_or-set_same (zeros (length (J.items Near))) i x 0 (omega (arith, length_zeros (length (J.items Near))))
-      at Far l = get_or-set_same (zeros (length (J.items Far))) i x 0 (omega (arith, length_zeros (length (J.items Far))))
+      at Near l = get_or-set_same _ i x 0 (omega (arith, length_zeros (length (J.items Near))))
+      at Far l = get_or-set_same _ i x 0 (omega (arith, length_zeros (length (J.items Far))))
 
   -- and elsewhere what any other probe of that place holds
   pub probe_elsewhere : (s : Side) (i x y : ℕ) (hx : x < 2 ^ 64) (hy : y < 2 ^ 64) (p : Place) → KnownItem J p → (place s i ≡ p) ⊎ (held (start (probe s i x hx)) p ≡ held (start (probe s i y hy)) p)
@@ -110,9 +98,9 @@ module _ {J : Joint} (F : Facts J) where
       go Far Near k l = inr (same Far Near k l refl)
       go Near Near k l = elim (cases_eq k i) [
         | inl e ↦ inl (ap (place Near) (sym e))
-        | inr ne ↦ inr (same Near Near k l (get_or-set_other (zeros (length (J.items Near))) i k x 0 ne ∙ sym (get_or-set_other (zeros (length (J.items Near))) i k y 0 ne)))
+        | inr ne ↦ inr (same Near Near k l (get_or-set_other _ i k x 0 ne ∙ sym (get_or-set_other _ i k y 0 ne)))
       ]
       go Far Far k l = elim (cases_eq k i) [
         | inl e ↦ inl (ap (place Far) (sym e))
-        | inr ne ↦ inr (same Far Far k l (get_or-set_other (zeros (length (J.items Far))) i k x 0 ne ∙ sym (get_or-set_other (zeros (length (J.items Far))) i k y 0 ne)))
+        | inr ne ↦ inr (same Far Far k l (get_or-set_other _ i k x 0 ne ∙ sym (get_or-set_other _ i k y 0 ne)))
       ]

@@ -1,21 +1,20 @@
 -- Two memories that are alike in a closed view stay alike in it through any calls, and the calls answer alike. Assumes nothing.
-use Rattle.std.proofs.Common.{◌≡◌, ℕ, ◌<◌, ltb, List, [], ◌∷◌, map, length, Some, None, Ok, Err, Result, sym, refl, ap, ◌∙◌, subst, inl, inr, arith}
+use Rattle.std.proofs.Common.{◌≡◌, ℕ, ◌<◌, List, [], ◌∷◌, map, length, Some, None, Ok, Err, Result, sym, refl, ap, subst, ap₂, inl, inr, arith}
 use Rattle.std.specs.List.{AllByRecursion}
-use Rattle.refusal.specs.Judging.{Judgement, accepted, ◌⨟◌, check, under}
+use Rattle.refusal.specs.Judging.{Judgement, accepted, check, under}
 use Rattle.refusal.specs.declared.Side.{Side}
 use Rattle.refusal.proofs.Accepting.{check_accepted, both_accepted}
 use Rattle.agreement.specs.Agreements.{Joint}
-use Rattle.agreement.specs.Views.{highest_in}
 use Rattle.agreement.specs.declared.views.View.{View}
 use Rattle.machine.specs.Places.{Place, place, values_in, held, Write, written, all_written}
-use Rattle.machine.specs.Steps.{label_of, item_judged, show_judged, step_judged, step_writes}
+use Rattle.machine.specs.Steps.{label_of, show_judged, step_judged, step_writes}
 use Rattle.machine.specs.Calls.{Call, step, run, show, done, shown, fixed, value_at, Plan, plan, run_plan, if_accepted, answered, done_by, answer, after, answers, after_all, script_judged, script_writes}
 use Rattle.machine.specs.Secrets.{item_at, KnownItem, Sees, Alike, Agree, AllAgree}
 use Rattle.machine.specs.declared.fault.CallFault.{CallFault}
 use Rattle.machine.specs.declared.fault.CallFault.TheVariants.{Step as in_step}
 use Rattle.machine.specs.declared.fault.RunFault.{RunFault}
 use Rattle.machine.specs.declared.fault.StepFault.{StepFault}
-use Rattle.machine.specs.declared.fault.StepFault.TheVariants.{NotAllowed, UnknownLabel}
+use Rattle.machine.specs.declared.fault.StepFault.TheVariants.{NotAllowed}
 use Rattle.machine.specs.declared.script_type.ScriptType.{ScriptType}
 use Rattle.machine.specs.declared.values.Values.{Values}
 use Rattle.machine.proofs.Facts.{Facts, items}
@@ -38,15 +37,14 @@ module _ {J : Joint} (F : Facts J) (V : View) (closed : Closed J V) where
   reads_alike : (v w : Values) → Alike J V v w → (to : Place) → Sees J V to.side (item_at J to).label → (ps : List Place) → AllByRecursion (Readable J to) ps → map (held v) ps ≡ map (held w) ps
   reads_alike v w alike to sees [] all = refl
   reads_alike v w alike to sees (p ∷ ps) all =
-      let seen = reaches_from_view F V closed p.side (item_at J p).label to.side (item_at J to).label all.0.1 sees in
-      ap (λ (x : ℕ). x ∷ map (held v) ps) (alike p all.0.0 seen) ∙ ap (λ (l : List ℕ). held w p ∷ l) (reads_alike v w alike to sees ps all.1)
+      ap₂ (λ (x : ℕ) (l : List ℕ). x ∷ l) (alike p all.0.0 (reaches_from_view F V closed _ _ _ _ all.0.1 sees)) (reads_alike v w alike to sees ps all.1)
 
   write_twins : (v w : Values) (x : Write) → LawfulWrite J x → Twins J V v w → Twins J V (written v x) (written w x)
   write_twins v w x lawful twins = record {
-    sized = sized_put v x.target (x.result (map (held v) x.reads)) twins.sized;
-    sized_too = sized_put w x.target (x.result (map (held w) x.reads)) twins.sized_too;
+    sized = sized_put v x.target _ twins.sized;
+    sized_too = sized_put w x.target _ twins.sized_too;
     alike = λ p known sees.
-        put_alike v w x.target p (x.result (map (held v) x.reads)) (x.result (map (held w) x.reads))
+        put_alike v w x.target p _ _
         (within v x.target twins.sized lawful.known) (within w x.target twins.sized_too lawful.known)
         (λ q. ap x.result (reads_alike v w twins.alike x.target (subst (λ (r : Place). Sees J V r.side (item_at J r).label) (sym q) sees) x.reads lawful.reads))
         (twins.alike p known sees);
@@ -66,12 +64,9 @@ module _ {J : Joint} (F : Facts J) (V : View) (closed : Closed J V) where
   -- what is shown at a label in the view is in the view
   show_sees : (s : Side) (l i : ℕ) → show_judged (J.order s) s (J.items s) l i ≡ accepted → (i < length (J.items s)) × (Sees J V s l → Sees J V s (label_of (J.items s) i))
   show_sees s l i e =
-      let P = J.order s in
-      let xs = J.items s in
-      let f = check (P.flow (label_of xs i) l) (NotAllowed (Some s) i l) in
-      let first = both_accepted (check (ltb l P.count) (UnknownLabel s l)) (item_judged s xs i None ⨟ f) e in
-      let second = both_accepted (item_judged s xs i None) f first.1 in
-      (item_known s xs i None second.0, λ sees. P.transitive (label_of xs i) l (highest_in V s) (check_accepted (P.flow (label_of xs i) l) (NotAllowed (Some s) i l) second.1) sees)
+      let flows = check ((J.order s).flow (label_of (J.items s) i) l) (NotAllowed (Some s) i l) in
+      let known = both_accepted _ flows (both_accepted _ _ e).1 in
+      (item_known s _ _ None known.0, λ sees. (J.order s).transitive _ _ _ (check_accepted _ (NotAllowed (Some s) i l) known.1) sees)
 
   call_agrees : (c : Call) (v w : Values) → Twins J V v w → Agree J V c (answer J v c) (answer J w c)
   call_agrees (step x) v w twins = go (under in_step (step_judged J x))

@@ -1,5 +1,5 @@
 -- A run leaves what its lines leave, and changes only what lies above its type. Assumes nothing.
-use Rattle.std.proofs.Common.{◌≡◌, ℕ, true, List, [], ◌∷◌, ◌++◌, map, length, replicate, Ok, Err, Option, Result, sym, refl, ap, ◌∙◌, subst, ap₂, inl, inr, arith}
+use Rattle.std.proofs.Common.{◌≡◌, ℕ, true, List, [], ◌∷◌, ◌++◌, map, length, replicate, Ok, Err, Option, Result, sym, refl, ap, ◌∙◌, subst, ap₂, inl, inr}
 use Rattle.std.specs.List.{flat_map, AllByRecursion}
 use Rattle.std.proofs.ByRecursion.{All-append}
 use Rattle.bits.specs.Bits.{all_bits}
@@ -59,17 +59,15 @@ module _ (J : Joint) where
   step_above T (store s t q) below = ((own_given T s (label_of (J.items s) t ∷ []) below).0, tt)
   step_above T (move s t q) below = (
     (own_given T (other s) (label_of (J.items (other s)) t ∷ [])
-        (λ u. (upper_append (dual (J.order u)) (for_house s u (label_of (J.items s) q ∷ [])) (for_house (other s) u (label_of (J.items (other s)) t ∷ [])) (T u) (below u)).1)).0,
+        (λ u. (upper_append (dual (J.order u)) (for_house s u (label_of (J.items s) q ∷ [])) _ (T u) (below u)).1)).0,
     tt,
   )
 
   steps_above : (T : Side → ℕ) (ls : List Line) → ((s : Side) → Upper (dual (J.order s)) (all_given J s (map line_step ls)) (T s)) → AllByRecursion (λ w. Above J T w.target) (flat_map (λ l. step_writes (line_step l)) ls)
   steps_above T [] below = tt
   steps_above T (l ∷ ls) below =
-      let parts : (s : Side) → Upper (dual (J.order s)) (given J s (line_step l)) (T s) × Upper (dual (J.order s)) (all_given J s (map line_step ls)) (T s) =
-      λ s. upper_append (dual (J.order s)) (given J s (line_step l)) (all_given J s (map line_step ls)) (T s) (below s) in
-      All-append (λ w. Above J T w.target) (step_writes (line_step l)) (flat_map (λ l. step_writes (line_step l)) ls)
-      (step_above T (line_step l) (λ s. (parts s).0)) (steps_above T ls (λ s. (parts s).1))
+      let parts = λ (s : Side). upper_append (dual (J.order s)) (given J s (line_step l)) _ (T s) (below s) in
+      All-append _ _ _ (step_above T (line_step l) (λ s. (parts s).0)) (steps_above T ls (λ s. (parts s).1))
 
   -- what writes change lies at one of their targets
   changed_above : (T : Side → ℕ) (v : Values) (ws : List Write) → AllByRecursion (λ w. Above J T w.target) ws → (p : Place) → (held (all_written v ws) p ≡ held v p → ⊥) → Above J T p
@@ -94,7 +92,7 @@ module _ (J : Joint) where
   lines_done (l ∷ ls) v all =
       let one = step_done (line_step l) v all.0 in
       let rest = lines_done ls (after J v (step (line_step l))) all.1 in (
-        all_written_append v (step_writes (line_step l)) (flat_map (λ l. step_writes (line_step l)) ls)
+        all_written_append v (step_writes (line_step l)) _
             ∙ ap (λ (w : Values). all_written w (flat_map (λ l. step_writes (line_step l)) ls)) (sym one.0) ∙ rest.0,
         ap₂ (λ (a : Answer) (b : List Answer). a ∷ b) one.1 rest.1,
       )
@@ -116,15 +114,14 @@ module _ {J : Joint} (F : Facts J) where
   given_known u (fetch s t q) all = for_house_known s u (label_of (J.items s) t ∷ []) ((lawful F (place s t) all.0.known).label, tt)
   given_known u (store s t q) all = for_house_known s u (label_of (J.items s) t ∷ []) ((lawful F (place s t) all.0.known).label, tt)
   given_known u (move s t q) all =
-      known_append (J.order u) (for_house s u (label_of (J.items s) q ∷ [])) (for_house (other s) u (label_of (J.items (other s)) t ∷ []))
+      known_append (J.order u) _ _
       (for_house_known s u (label_of (J.items s) q ∷ []) ((lawful F (place s q) all.0.reads.0.0).label, tt))
       (for_house_known (other s) u (label_of (J.items (other s)) t ∷ []) ((lawful F (place (other s) t) all.0.known).label, tt))
 
   all_given_known : (u : Side) (ls : List Line) → AllByRecursion (λ l. step_judged J (line_step l) ≡ accepted) ls → Known (J.order u) (all_given J u (map line_step ls))
   all_given_known u [] all = tt
   all_given_known u (l ∷ ls) all =
-      known_append (J.order u) (given J u (line_step l)) (all_given J u (map line_step ls))
-      (given_known u (line_step l) (step_lawful J (line_step l) all.0)) (all_given_known u ls all.1)
+      known_append (J.order u) _ _ (given_known u (line_step l) (step_lawful J (line_step l) all.0)) (all_given_known u ls all.1)
 
   -- a bound of known labels is there, and is the greatest lower one
   greatest : (u : Side) (ls : List ℕ) → Known (J.order u) ls → Supremum (dual (J.order u)) ls (or_top (J.order u) (lowest (J.order u) ls))
@@ -151,7 +148,7 @@ module _ {J : Joint} (F : Facts J) where
     where
       go : (r : Result ScriptType RunFault) → script_judged J bytes at ≡ r → answered v (run_plan r (script_writes bytes at)) ≡ Ok (typed T) →
           (lines : List Line) × (end : ℕ) × (read script (all_bits bytes) at ≡ Ok (lines, end)) × RunsAsItsLines J v bytes at T lines
-      go (Err y) q e = let z : ◌≡◌ {A = ℕ} 0 1 = cc in absurd (omega arith)
+      go (Err y) q e = absurd cc
       go (Ok U) q e =
           let same : U ≡ T = cc in
           let a = script_accepted J bytes at T (q ∙ ap Ok same) in

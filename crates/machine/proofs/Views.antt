@@ -1,13 +1,12 @@
 -- Closed views: what may come to be at a label of the view comes from a label of it. Assumes nothing.
-use Rattle.std.proofs.Common.{◌≡◌, ℕ, ◌<◌, Bool, true, false, List, Some, None, Option, sym, refl, ap, ◌∙◌, subst}
-use Rattle.std.proofs.lemmas.Bool.{both_ways}
+use Rattle.std.proofs.Common.{◌≡◌, ℕ, ◌<◌, Bool, true, List, Some, None, Option, refl, ap, ◌∙◌, subst}
 use Rattle.refusal.specs.Sides.{other}
 use Rattle.refusal.specs.declared.Side.{Side}
 use Rattle.refusal.specs.declared.Side.TheVariants.{Near, Far}
 use Rattle.order.specs.Orders.{PartialOrder}
 use Rattle.agreement.specs.Agreements.{Joint}
 use Rattle.agreement.specs.Connection.{Total, Monotone, Rising}
-use Rattle.agreement.specs.Maps.{at, image_of, and_then, related, moves}
+use Rattle.agreement.specs.Maps.{at, image_of, related, moves}
 use Rattle.agreement.specs.Views.{view_at, view_in, highest_in}
 use Rattle.agreement.specs.declared.views.View.{View}
 use Rattle.agreement.proofs.Connections.{image_total, image_some}
@@ -38,7 +37,7 @@ pub moves_parts : (P Q : PartialOrder) (m : List ℕ) (a b : ℕ) → moves P Q 
 moves_parts P Q m a b e = go (image_of P Q m a) refl e
   where
     go : (o : Option ℕ) → image_of P Q m a ≡ o → related Q.flow o (Some b) ≡ true → (a < P.count) × (Q.flow (at m a) b ≡ true)
-    go None i t = absurd (both_ways false refl t)
+    go None i t = absurd cc
     go (Some x) i t = let some = image_some P Q m a x i in (some.0, ap (λ (y : ℕ). Q.flow y b) some.1 ∙ t)
 
 pub moves_from : (P Q : PartialOrder) (m : List ℕ) (a b : ℕ) → Total P Q m → a < P.count → Q.flow (at m a) b ≡ true → moves P Q m a b ≡ true
@@ -63,34 +62,25 @@ module _ {J : Joint} (F : Facts J) where
 
   -- the view of a known label is its round trip and its image
   pub view_is : (s : Side) (c : ℕ) → c < (J.order s).count → view_in J s c ≡ Some (view_at s (at (J.map (other s)) (at (J.map s) c)) (at (J.map s) c))
-  view_is s c h =
-      let P = J.order s in
-      let Q = J.order (other s) in
-      let m = J.map s in
-      let w = J.map (other s) in
-      ap (λ (o : Option ℕ). and_then o (λ across. and_then (image_of Q P w across) (λ own. Some (view_at s own across)))) (image_total P Q m (total F s) c h)
-      ∙ ap (λ (o : Option ℕ). and_then o (λ own. Some (view_at s own (at m c)))) (image_total Q P w (total_back F s) (at m c) ((total F s).known c h))
+  view_is s c h = rw (image_total _ _ _ (total F s) c h, image_total _ _ _ (total_back F s) _ ((total F s).known c h))
 
   closed_at : (s : Side) (c : ℕ) → c < (J.order s).count → Closed J (view_at s (at (J.map (other s)) (at (J.map s) c)) (at (J.map s) c))
   closed_at Near c h = go
     where
       go : Closed J (view_at Near (at (J.map Far) (at (J.map Near) c)) (at (J.map Near) c))
-      go Near = ap (λ (x : ℕ). (J.order Far).flow x (at (J.map Near) c)) (stable F Near c h) ∙ (J.order Far).reflexive (at (J.map Near) c) ((total F Near).known c h)
-      go Far = (J.order Near).reflexive (at (J.map Far) (at (J.map Near) c)) ((total F Far).known (at (J.map Near) c) ((total F Near).known c h))
+      go Near = rw (stable F Near c h) ((J.order Far).reflexive _ ((total F Near).known c h))
+      go Far = (J.order Near).reflexive _ ((total F Far).known _ ((total F Near).known c h))
   closed_at Far c h = go
     where
       go : Closed J (view_at Far (at (J.map Near) (at (J.map Far) c)) (at (J.map Far) c))
-      go Far = ap (λ (x : ℕ). (J.order Near).flow x (at (J.map Far) c)) (stable F Far c h) ∙ (J.order Near).reflexive (at (J.map Far) c) ((total F Far).known c h)
-      go Near = (J.order Far).reflexive (at (J.map Near) (at (J.map Far) c)) ((total F Near).known (at (J.map Far) c) ((total F Far).known c h))
+      go Far = rw (stable F Far c h) ((J.order Near).reflexive _ ((total F Far).known c h))
+      go Near = (J.order Far).reflexive _ ((total F Near).known _ ((total F Far).known c h))
 
   pub view_closed : (o : Observer J) → Closed J o.view
   view_closed o =
       let is = view_is o.side o.label o.known in
-      let same : view_at o.side (at (J.map (other o.side)) (at (J.map o.side) o.label)) (at (J.map o.side) o.label) ≡ o.view = some_same (sym is ∙ o.sees) in
+      let same : view_at o.side (at (J.map (other o.side)) (at (J.map o.side) o.label)) (at (J.map o.side) o.label) ≡ o.view = cc (is, o.sees) in
       subst (λ (V : View). Closed J V) same (closed_at o.side o.label o.known)
-    where
-      some_same : {V W : View} → ◌≡◌ {A = Option View} (Some V) (Some W) → V ≡ W
-      some_same e = cc
 
   pub nothing_is_missing : NothingIsMissing J
   nothing_is_missing = record {

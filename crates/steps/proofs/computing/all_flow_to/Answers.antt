@@ -1,8 +1,6 @@
-use Rattle.std.proofs.Common.{length, get_or, Some, ap, ◌∙◌}
+use Rattle.std.proofs.Common.{length, Some}
 use Rattle.refusal.proofs.Judging.{check_at, left_none, left_more, left_err, left_all}
-use Rattle.script.specs.Lines.{blank}
-use Rattle.machine.specs.Operations.{operands}
-use Rattle.machine.specs.Steps.{all_flow, pair_judged}
+use Rattle.machine.specs.Steps.{pair_judged}
 use Rattle.machine.specs.declared.fault.StepFault.TheVariants.{NotAllowed}
 use Rattle.steps.proofs.computing.all_flow_to.Goals as goal
 
@@ -15,13 +13,13 @@ pub loop-place-preserved : goal.loop-place-preserved
 loop-place-preserved g c =
     let k = c.loop-place.place in
     left_more c.loop-place.invariant c.loop-place-test.true
-    (check_at (NotAllowed (Some c.args.side) c.args.target k) (c.if-not-operands_flow.ensures ∙ ap (all_flow (g.O.Order.meaning c.args.order.now) c.args.items.now (operands (get_or c.args.assignments.now k blank))) c.requires))
+    (check_at (NotAllowed (Some c.args.side) c.args.target k) (rw c.requires at c.if-not-operands_flow.ensures))
 
 pub returns-then-not-operands_flow : goal.returns-then-not-operands_flow
 returns-then-not-operands_flow g c =
     let k = c.loop-place.place in
     left_err c.loop-place.invariant c.loop-place-test.true
-    (check_at (NotAllowed (Some c.args.side) c.args.target k) (c.if-not-operands_flow.ensures ∙ ap (all_flow (g.O.Order.meaning c.args.order.now) c.args.items.now (operands (get_or c.args.assignments.now k blank))) c.requires))
+    (check_at (NotAllowed (Some c.args.side) c.args.target k) (rw c.requires at c.if-not-operands_flow.ensures))
 
 pub returns : goal.returns
 returns g c = left_all c.loop-place.invariant c.loop-place-test.false

@@ -1,17 +1,12 @@
-use Rattle.std.proofs.Common.{[], ◌∷◌, ◌++◌, is_ok, refl, ap, ◌∙◌, arith}
-use Rattle.std.proofs.lemmas.Bool.{both_ways}
-use Rattle.bits.specs.Bits.{all_bits}
-use Rattle.format.specs.Formats.{read}
-use Rattle.script.specs.Scripts.{script}
+use Rattle.std.proofs.Common.{[], ◌∷◌, ◌++◌, refl, ap, ◌∙◌, arith}
 use Rattle.machine.specs.Places.{all_written}
 use Rattle.steps.proofs.Rereading.{counted, uncounted, lines_start, lines_more, script_stops, script_ends}
-use Rattle.steps.proofs.Running.{writes_are, written_push}
+use Rattle.steps.proofs.Running.{not_failed, writes_are, written_push}
 use Rattle.steps.proofs.scripts.do_script.Goals as goal
 
 pub returns-in_default : goal.returns-in_default
 returns-in_default c =
-    absurd (both_ways (is_ok (read script (all_bits c.args.bytes.now) c.args.at))
-    (ap is_ok (uncounted c.new-reader.result c.new-reader.ensures.bytes c.new-reader.ensures.at c.in_default.field-0 c.in_default.ensures.value)) c.requires)
+    absurd (not_failed (uncounted c.new-reader.result c.new-reader.ensures.bytes c.new-reader.ensures.at c.in_default.field-0 c.in_default.ensures.value) c.requires)
 
 pub loop-passed-init : goal.loop-passed-init
 loop-passed-init c = ([], lines_start c.in-Ok.count c.line_count.new.reader, refl)
@@ -20,9 +15,7 @@ pub returns-in_default-numbered_line : goal.returns-in_default-numbered_line
 returns-in_default-numbered_line c =
     let first = c.in-Ok.ensures in
     let whole = counted c.new-reader.result c.new-reader.ensures.bytes c.new-reader.ensures.at c.in-Ok.count c.line_count.new.reader first.bytes first.value in
-    absurd (both_ways (is_ok (read script (all_bits c.args.bytes.now) c.args.at))
-    (ap is_ok (script_stops whole c.loop-passed.passed c.loop-passed.reader c.loop-passed.invariant.0 c.in_default-numbered_line.field-0 (omega arith)
-    c.in_default-numbered_line.ensures.value c.loop-passed.invariant.1)) c.requires)
+    absurd (not_failed (script_stops whole _ _ c.loop-passed.invariant.0 _ (omega arith) c.in_default-numbered_line.ensures.value c.loop-passed.invariant.1) c.requires)
 
 pub loop-passed-preserved : goal.loop-passed-preserved
 loop-passed-preserved c =

@@ -1,29 +1,22 @@
-use Rattle.std.proofs.Common.{ℕ, ◌+◌, [], ◌∷◌, ◌++◌, sym, refl, ap, subst}
+use Rattle.std.proofs.Common.{ℕ, ◌+◌, [], ◌∷◌, ◌++◌, refl, ap}
 use Rattle.refusal.proofs.Judging.{break_is}
 use Rattle.agreement.specs.Agreements.{joined}
-use Rattle.steps.specs.Folds.{JudgesLines}
 use Rattle.steps.proofs.Accepting.{judged_push}
 use Rattle.steps.proofs.Rereading.{counted, uncounted, lines_start, lines_more, script_stops, script_ends}
 use Rattle.steps.proofs.scripts.judge_lines.Goals as goal
 
 pub returns-in_err-count : goal.returns-in_err-count
 returns-in_err-count g c =
-    let J = joined g.N.Order.meaning g.F.Order.meaning c.args.houses.now in
-    let e = c.in_err-count.field-0.0 in
-    subst (JudgesLines J c.args.bytes.now c.args.at) (sym (break_is c.from_residual.result e c.from_residual.ensures.1))
-    (uncounted c.new-reader.result c.new-reader.ensures.bytes c.new-reader.ensures.at e c.in_err-count.ensures.value)
+    rw (break_is _ _ c.from_residual.ensures.1) (uncounted c.new-reader.result c.new-reader.ensures.bytes c.new-reader.ensures.at _ c.in_err-count.ensures.value)
 
 pub loop-place-init : goal.loop-place-init
 loop-place-init g c = ([], lines_start c.in_ok-count.count c.line_count.new.reader, (refl, c.none_judged.ensures))
 
 pub returns-in_err-line : goal.returns-in_err-line
 returns-in_err-line g c =
-    let J = joined g.N.Order.meaning g.F.Order.meaning c.args.houses.now in
-    let e = c.in_err-line.field-0.0 in
-    let first = c.in_ok-count.ensures in
-    let whole = counted c.new-reader.result c.new-reader.ensures.bytes c.new-reader.ensures.at c.in_ok-count.count c.line_count.new.reader first.bytes first.value in
-    subst (JudgesLines J c.args.bytes.now c.args.at) (sym (break_is c.from_residual-in_err-line.result e c.from_residual-in_err-line.ensures.1))
-    (script_stops whole c.loop-place.place c.loop-place.reader c.loop-place.invariant.0 e c.loop-place-test.true c.in_err-line.ensures.value c.loop-place.invariant.1)
+    let whole = counted c.new-reader.result c.new-reader.ensures.bytes c.new-reader.ensures.at c.in_ok-count.count c.line_count.new.reader c.in_ok-count.ensures.bytes c.in_ok-count.ensures.value in
+    rw (break_is _ _ c.from_residual-in_err-line.ensures.1)
+    (script_stops whole _ _ c.loop-place.invariant.0 _ c.loop-place-test.true c.in_err-line.ensures.value c.loop-place.invariant.1)
 
 pub loop-place-preserved : goal.loop-place-preserved
 loop-place-preserved g c =
@@ -41,6 +34,5 @@ loop-place-preserved g c =
 
 pub returns : goal.returns
 returns g c =
-    let first = c.in_ok-count.ensures in
-    let whole = counted c.new-reader.result c.new-reader.ensures.bytes c.new-reader.ensures.at c.in_ok-count.count c.line_count.new.reader first.bytes first.value in
-    (c.loop-place.invariant.0, c.loop-place.reader.at, script_ends whole c.loop-place.place c.loop-place.reader c.loop-place.invariant.0 c.loop-place-test.false c.loop-place.invariant.1, c.loop-place.invariant.2)
+    let whole = counted c.new-reader.result c.new-reader.ensures.bytes c.new-reader.ensures.at c.in_ok-count.count c.line_count.new.reader c.in_ok-count.ensures.bytes c.in_ok-count.ensures.value in
+    (c.loop-place.invariant.0, c.loop-place.reader.at, script_ends whole _ _ c.loop-place.invariant.0 c.loop-place-test.false c.loop-place.invariant.1, c.loop-place.invariant.2)

@@ -6,7 +6,7 @@ use Rattle.order.proofs.Searches.{supremum_is}
 use Rattle.agreement.specs.Agreements.{joined}
 use Rattle.machine.specs.Calls.{line_step}
 use Rattle.machine.specs.Types.{all_given, or_top}
-use Rattle.machine.specs.declared.fault.RunFault.TheVariants.{Unreadable, Line as in_line}
+use Rattle.machine.specs.declared.fault.RunFault.TheVariants.{Line as in_line}
 use Rattle.steps.specs.Folds.{JudgedSo}
 use Rattle.steps.proofs.Running.{script_unread, script_refused, script_typed}
 use Rattle.steps.proofs.scripts.judge_script.Goals as goal
@@ -14,9 +14,7 @@ use Rattle.steps.proofs.scripts.judge_script.Goals as goal
 pub returns-in_err-judge_lines : goal.returns-in_err-judge_lines
 returns-in_err-judge_lines g c =
     let J = joined g.N.Order.meaning g.F.Order.meaning c.args.houses.now in
-    let e = c.in_err-judge_lines.field-0.0 in
-    break_is c.from_residual.result (Unreadable e) c.from_residual.ensures.1
-    ∙ sym (script_unread J c.args.bytes.now c.args.at e c.in_err-judge_lines.ensures)
+    break_is _ _ c.from_residual.ensures.1 ∙ sym (script_unread J c.args.bytes.now c.args.at _ c.in_err-judge_lines.ensures)
 
 pub returns-in_err-lowest : goal.returns-in_err-lowest
 returns-in_err-lowest g c =
