@@ -6,7 +6,6 @@ ghost use Rattle.session.specs.Records.{after_call, answer_to, judging};
 use crate::keeping::lent;
 use crate::pass::OpenPass;
 use crate::record::Session;
-use agreement::Joined;
 use machine::{CallFault, ScriptType, Stage, at_stage, may_judge};
 use order::Lattice;
 use refusal::Side;
@@ -25,11 +24,7 @@ impl<N: Lattice, F: Lattice> Session<N, F> {
         ensures record { self.new ≡ after_call N.Order.meaning F.Order.meaning self.old (a_step (a_compute side assignments.now)) }
     {
         at_stage(self.stage, Stage::Open)?;
-        let houses = Joined {
-            near: &self.near,
-            far: &self.far,
-            agreement: lent(&self.maps, &self.table.items),
-        };
+        let houses = lent(&self.near, &self.far, &self.maps, &self.table.items);
         steps::compute(&houses, &mut self.table.values, side, assignments)?;
         Ok(())
     }
@@ -40,11 +35,7 @@ impl<N: Lattice, F: Lattice> Session<N, F> {
         ensures record { self.new ≡ after_call N.Order.meaning F.Order.meaning self.old (a_step (line_step line.now)) }
     {
         at_stage(self.stage, Stage::Open)?;
-        let houses = Joined {
-            near: &self.near,
-            far: &self.far,
-            agreement: lent(&self.maps, &self.table.items),
-        };
+        let houses = lent(&self.near, &self.far, &self.maps, &self.table.items);
         perform(&houses, &mut self.table.values, line)?;
         Ok(())
     }
@@ -113,11 +104,7 @@ impl<N: Lattice, F: Lattice> Session<N, F> {
         ensures record { self.new ≡ after_call N.Order.meaning F.Order.meaning self.old (a_run bytes.now at) }
     {
         at_stage(self.stage, Stage::Open)?;
-        let houses = Joined {
-            near: &self.near,
-            far: &self.far,
-            agreement: lent(&self.maps, &self.table.items),
-        };
+        let houses = lent(&self.near, &self.far, &self.maps, &self.table.items);
         let typed = run_script(&houses, &mut self.table.values, bytes, at)?;
         Ok(typed)
     }
@@ -133,12 +120,7 @@ impl<N: Lattice, F: Lattice> Session<N, F> {
         ensures { as_shown result ≡ answer_to N.Order.meaning F.Order.meaning self.now (a_show side label item) }
     {
         at_stage(self.stage, Stage::Open)?;
-        let houses = Joined {
-            near: &self.near,
-            far: &self.far,
-            agreement: lent(&self.maps, &self.table.items),
-        };
-        let value = steps::show(&houses, &self.table.values, side, label, item)?;
+        let value = steps::show(&self.houses(), &self.table.values, side, label, item)?;
         Ok(value)
     }
 
@@ -147,12 +129,7 @@ impl<N: Lattice, F: Lattice> Session<N, F> {
         ensures { as_typed result ≡ judging N.Order.meaning F.Order.meaning self.now (a_run bytes.now at) }
     {
         may_judge(self.stage)?;
-        let houses = Joined {
-            near: &self.near,
-            far: &self.far,
-            agreement: lent(&self.maps, &self.table.items),
-        };
-        let typed = judge_script(&houses, bytes, at)?;
+        let typed = judge_script(&self.houses(), bytes, at)?;
         Ok(typed)
     }
 }

@@ -9,7 +9,7 @@ ghost use Rattle.session.specs.Records.{Hands, blank_table, certify_answer, clos
 use crate::pass::{CertifiedPass, DraftPass, OpenPass, exchanged};
 use crate::record::{BLANK_ITEM, Items, Maps, Session, Table};
 use crate::returned::Returned;
-use agreement::{Agreement, Item, certify};
+use agreement::{Agreement, Item, Joined};
 use fixed::FixedList;
 use machine::{CallFault, Stage, Values, at_stage};
 use order::Lattice;
@@ -41,7 +41,12 @@ impl<N: Lattice, F: Lattice> Session<N, F> {
         ensures secrets { OnOk result (KeepsSecrets (known N.Order.meaning F.Order.meaning self.new)) }
     {
         at_stage(self.stage, Stage::Draft)?;
-        certify(&self.near, &self.far, agreement)?;
+        let houses = Joined {
+            near: &self.near,
+            far: &self.far,
+            agreement: *agreement,
+        };
+        houses.certify()?;
         self.maps = Maps {
             out: FixedList::of(0, agreement.out),
             back: FixedList::of(0, agreement.back),

@@ -3,10 +3,9 @@ ghost use Rattle.std.specs.Option.{option_map};
 ghost use Rattle.agreement.specs.Views.{ListsView};
 ghost use Rattle.session.specs.Records.{known};
 
-use crate::keeping::lent;
 use crate::record::Session;
-use agreement::{Item, items_in_view};
-use order::Lattice;
+use agreement::Item;
+use order::{Lattice, Order};
 use refusal::Side;
 use std::alloc::{AllocError, Global};
 
@@ -15,20 +14,14 @@ impl<N: Lattice, F: Lattice> Session<N, F> {
     pub fn labels(&self, side: Side) -> u64
         ensures { result ≡ ((known N.Order.meaning F.Order.meaning self.now).order side).count }
     {
-        match side {
-            Side::Near => self.near.count(),
-            Side::Far => self.far.count(),
-        }
+        self.houses().house(side).count()
     }
 
     // The items of a house.
     pub fn items(&self, side: Side) -> &[Item]
         ensures { result.now ≡ (known N.Order.meaning F.Order.meaning self.now).items side }
     {
-        match side {
-            Side::Near => self.table.items.near.as_slice(),
-            Side::Far => self.table.items.far.as_slice(),
-        }
+        self.houses().items(side)
     }
 
     // The items of a house that somebody cleared for a label may come to depend on, by number; absent where the label
@@ -42,7 +35,6 @@ impl<N: Lattice, F: Lattice> Session<N, F> {
     ) -> Result<Option<Vec<u64>>, AllocError>
         ensures { IfOk result (λ o. ListsView (known N.Order.meaning F.Order.meaning self.now) side label house (option_map vec_items o)) }
     {
-        let agreement = lent(&self.maps, &self.table.items);
-        items_in_view(heap, &self.near, &self.far, &agreement, side, label, house)
+        self.houses().items_in_view(heap, side, label, house)
     }
 }

@@ -6,5 +6,4 @@ use Rattle.session.proofs.record.Session.items_in_view.Goals as goal
 
 pub returns : goal.returns
 returns g c =
-    let same = c.lent-agreement.ensures (g.N.Order.meaning c.args.self.now.near) (g.F.Order.meaning c.args.self.now.far) in
-    subst (λ (J : Joint). IfOk c.items_in_view.result (λ o. ListsView J c.args.side c.args.label c.args.house (option_map vec_items o))) same c.items_in_view.ensures
+    subst (λ (J : Joint). IfOk c.items_in_view.result (λ o. ListsView J c.args.side c.args.label c.args.house (option_map vec_items o))) c.houses.ensures c.items_in_view.ensures

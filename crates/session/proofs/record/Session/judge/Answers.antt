@@ -1,7 +1,7 @@
 use Rattle.std.proofs.Common.{◌≡◌, Ok, Err, sym, ap, ◌∙◌}
 use Rattle.refusal.specs.Judging.{Judgement, accepted}
 use Rattle.refusal.proofs.Judging.{break_is}
-use Rattle.agreement.specs.Agreements.{agreed}
+use Rattle.agreement.specs.Agreements.{joined}
 use Rattle.session.specs.Records.{known_of}
 use Rattle.machine.specs.Calls.{answer, as_typed, gated, may_judge, run}
 use Rattle.machine.specs.declared.fault.CallFault.{CallFault}
@@ -14,9 +14,9 @@ returns-in_err-typed g c =
     let self = c.args.self.now in
     let N = g.N.Order.meaning self.near in
     let F = g.F.Order.meaning self.far in
-    let K = agreed N F c.lent.result in
+    let K = joined g.N.Order.meaning g.F.Order.meaning c.houses.result in
     let J = known_of N F self.maps self.table.items in
-    let same = c.lent.ensures N F in
+    let same = c.houses.ensures in
     let may : may_judge self.stage ≡ accepted = sym c.may_judge.ensures ∙ c.in_ok-may_judge.was in
     let v = self.table.values in
     let gate = ap (λ (j : Judgement CallFault). gated j (answer J v (run c.args.bytes.now c.args.at))) (sym may) in
@@ -29,9 +29,9 @@ returns g c =
     let self = c.args.self.now in
     let N = g.N.Order.meaning self.near in
     let F = g.F.Order.meaning self.far in
-    let K = agreed N F c.lent.result in
+    let K = joined g.N.Order.meaning g.F.Order.meaning c.houses.result in
     let J = known_of N F self.maps self.table.items in
-    let same = c.lent.ensures N F in
+    let same = c.houses.ensures in
     let may : may_judge self.stage ≡ accepted = sym c.may_judge.ensures ∙ c.in_ok-may_judge.was in
     let v = self.table.values in
     let gate = ap (λ (j : Judgement CallFault). gated j (answer J v (run c.args.bytes.now c.args.at))) (sym may) in

@@ -1,7 +1,7 @@
 use Rattle.std.proofs.Common.{◌≡◌, Ok, Err, sym, ap, ◌∙◌}
 use Rattle.refusal.specs.Judging.{accepted}
 use Rattle.refusal.proofs.Judging.{break_is}
-use Rattle.agreement.specs.Agreements.{agreed}
+use Rattle.agreement.specs.Agreements.{joined}
 use Rattle.machine.specs.declared.values.Values.{Values}
 use Rattle.session.specs.Records.{known_of}
 use Rattle.machine.specs.Calls.{as_typed, run, stage_judged}
@@ -16,9 +16,9 @@ returns-in_err-typed g c =
     let self = c.args.self.now in
     let N = g.N.Order.meaning self.near in
     let F = g.F.Order.meaning self.far in
-    let K = agreed N F c.lent.result in
+    let K = joined g.N.Order.meaning g.F.Order.meaning c.lent-houses.result in
     let J = known_of N F self.maps self.table.items in
-    let same = c.lent.ensures N F in
+    let same = c.lent-houses.ensures in
     let is_open : stage_judged self.stage Open ≡ accepted = sym c.at_stage.ensures ∙ c.in_ok-at_stage.was in
     let got = c.in_err-typed.ensures in
     let e = c.in_err-typed.field-0.0 in
@@ -34,9 +34,9 @@ returns g c =
     let self = c.args.self.now in
     let N = g.N.Order.meaning self.near in
     let F = g.F.Order.meaning self.far in
-    let K = agreed N F c.lent.result in
+    let K = joined g.N.Order.meaning g.F.Order.meaning c.lent-houses.result in
     let J = known_of N F self.maps self.table.items in
-    let same = c.lent.ensures N F in
+    let same = c.lent-houses.ensures in
     let is_open : stage_judged self.stage Open ≡ accepted = sym c.at_stage.ensures ∙ c.in_ok-at_stage.was in
     let got = c.in_ok-typed.ensures in
     let left : Values → Session g.row.N.Denot g.row.F.Denot = λ w. record { near = self.near; far = self.far; maps = self.maps; stage = self.stage; table = record { items = self.table.items; values = w } } in
