@@ -3,4 +3,5 @@ pub mod Readings
 pub mod Bytes
 pub mod Laws
 pub mod Loops
+pub mod Parts
 pub mod Slices

@@ -1,11 +1,8 @@
 -- Loops that read values in a row: what is left gives the whole. Assumes nothing.
-use Rattle.std.proofs.Common.{◌≡◌, ℕ, suc, ◌+◌, ◌-◌, ◌<◌, ◌≤◌, List, [], ◌∷◌, ◌++◌, length, take, set, replicate, IsErrAnd, Ok, Err, Result, sym, refl, ap, ◌∙◌, subst, ap₂, add-one, arith}
-use Rattle.std.proofs.lemmas.List.{append-nil, append_assoc, take_at, take_more_set, length-append, length_push, length-replicate, length-set, length-take-le, set-append_right}
-use Rattle.bits.specs.Bits.{all_bits}
-use Rattle.bits.specs.declared.reader.Reader.{Reader}
-use Rattle.fixed.specs.Lists.{padded}
-use Rattle.format.specs.Formats.{Format, Reading, followed, under, read, row_at, Fills}
-use Rattle.format.specs.declared.fault.FieldFault.{FieldFault}
+use Rattle.std.proofs.Common.{◌≡◌, ℕ, suc, ◌+◌, ◌-◌, ◌<◌, ◌≤◌, List, [], ◌∷◌, ◌++◌, length, take, drop, min, set, replicate, Ok, Err, sym, refl, ap, ◌∙◌, subst, ap₂, add-one, arith}
+use Rattle.std.proofs.lemmas.List.{append-nil, append_assoc, take_all, take_more_set, drop-replicate, length-replicate, length-take-le}
+use Rattle.fixed.specs.Lists.{padded, filled}
+use Rattle.format.specs.Formats.{Reading, followed, under, row_at}
 
 -- what was read, after values that were read before
 abbrev pub onto : {F A : Type 0} → List A → Reading F (List A) → Reading F (List A)
@@ -75,6 +72,19 @@ module _ {E F A : Type 0} (wrap : ℕ → E → F) (one : ℕ → Reading E A) w
   left_stored n start i p xs a q h room e left =
       subst (Left n start (i + 1) q) (sym (take_more_set xs i a room)) (left_more n start i p (take i xs) a q h e left)
 
+  -- the end of a loop that stores the values in the front of a table of blanks
+  pub stored : (size : ℕ) (blank : A) (count m start i p : ℕ) (xs : List A) → m ≡ min count size → length xs ≡ length (take m (replicate size blank)) → length (take m (replicate size blank)) ≤ i → Left (length (take m (replicate size blank))) start i p (take i xs) → followed (row_at wrap one 0 (min count size) start) (λ ys q. Ok (filled size blank ys, q)) ≡ Ok (record { count = m; places = xs ++ drop m (replicate size blank) }, p)
+  unfolding padded
+  stored size blank count m start i p xs least long h left =
+      let front : length (take m (replicate size blank)) ≡ m = length-take-le m (replicate size blank) (omega (arith, length-replicate size blank)) in
+      let all : take i xs ≡ xs = take_all i xs (omega arith) in
+      let row : row_at wrap one 0 (min count size) start ≡ Ok (xs, p) =
+      ap (λ (n : ℕ). row_at wrap one 0 n start) (sym (front ∙ least)) ∙ left_end (length (take m (replicate size blank))) start i p (take i xs) h left
+      ∙ ap (λ (l : List A). Ok (l, p)) all in
+      let back : replicate (size - length xs) blank ≡ drop m (replicate size blank) = ap (λ (n : ℕ). replicate (size - n) blank) (long ∙ front) ∙ sym (drop-replicate m size blank) in
+      ap (λ (r : Reading F (List A)). followed r (λ ys q. Ok (filled size blank ys, q))) row
+      ∙ ap₂ (λ (n : ℕ) (l : List A). Ok (record { count = n; places = xs ++ l }, p)) (long ∙ front) back
+
   -- the same of a loop that keeps no value: what is left ends where the whole ends
   abbrev pub Passing : ℕ → ℕ → ℕ → ℕ → Type 0
   Passing n start i p = ends_at (row_at wrap one 0 n start) ≡ ends_at (rest_at n i p)
@@ -90,92 +100,3 @@ module _ {E F A : Type 0} (wrap : ℕ → E → F) (one : ℕ → Reading E A) w
 
   pub passing_end : (n start i p : ℕ) → n ≤ i → Passing n start i p → ends_at (row_at wrap one 0 n start) ≡ Ok (tt, p)
   passing_end n start i p h left = left ∙ ap ends_at (rest_end n i p h)
-
--- arrays that are filled from the front
-module _ {A : Type 0} (n : ℕ) (blank : A) where
-  pub length_padded : (xs : List A) → length xs ≤ n → length (padded n blank xs) ≡ n
-  unfolding padded
-  length_padded xs h = length-append xs (replicate (n - length xs) blank) ∙ omega (arith, length-replicate (n - length xs) blank)
-
-  pub take_padded : (xs : List A) → take (length xs) (padded n blank xs) ≡ xs
-  unfolding padded
-  take_padded xs = take_at xs (replicate (n - length xs) blank) (length xs) refl
-
-  padded_more : (xs : List A) (a : A) → length xs < n → set (padded n blank xs) (length xs) a ≡ padded n blank (xs ++ a ∷ [])
-  unfolding padded
-  padded_more xs a h =
-      let less : n - length xs ≡ suc (n - length (xs ++ a ∷ [])) = omega (arith, length_push xs a) in
-      let here : length xs - length xs ≡ 0 = omega arith in
-      set-append_right xs (replicate (n - length xs) blank) (length xs) (length xs) a refl (omega arith)
-      ∙ ap₂ (λ (m k : ℕ). xs ++ set (replicate m blank) k a) less here
-      ∙ sym (append_assoc xs (a ∷ []) (replicate (n - length (xs ++ a ∷ [])) blank))
-
-  -- the first i elements were stored, and the others are blank: the invariant, its start and its step
-  abbrev pub Filled : ℕ → List A → Type 0
-  Filled i xs = xs ≡ padded n blank (take i xs)
-
-  pub filled_start : Filled 0 (replicate n blank)
-  unfolding padded
-  filled_start = let all : n ≡ n - 0 = omega arith in ap (λ (m : ℕ). replicate m blank) all
-
-  pub filled_more : (i : ℕ) (xs : List A) (a : A) → i < n → length xs ≡ n → Filled i xs → Filled (i + 1) (set xs i a)
-  filled_more i xs a h long filled =
-      let here : length (take i xs) ≡ i = length-take-le i xs (omega arith) in
-      ap (λ (l : List A). set l i a) filled
-      ∙ ap (λ (k : ℕ). set (padded n blank (take i xs)) k a) (sym here)
-      ∙ padded_more (take i xs) a (omega arith)
-      ∙ ap (padded n blank) (sym (take_more_set xs i a (omega arith)))
-
--- A loop that stores values in an array with blanks behind them: its invariant, its start, its step and its two ends.
--- Of n values from bit start on, i were read up to bit p and stand in xs.
-module _ {E F A : Type 0} (wrap : ℕ → E → F) (one : ℕ → Reading E A) (size : ℕ) (blank : A) where
-  pub record Filling (n start i p : ℕ) (xs : List A) : Type 0 where
-    pub long : length xs ≡ size
-    pub filled : Filled size blank i xs
-    pub left : Left wrap one n start i p (take i xs)
-
-  pub filling_start : (n start : ℕ) → Filling n start 0 start (replicate size blank)
-  filling_start n start = record { long = length-replicate size blank; filled = filled_start size blank; left = left_start wrap one n start }
-
-  pub filling_more : (n start i p : ℕ) (xs : List A) (a : A) (q : ℕ) → n ≤ size → i < n → under (wrap i) (one p) ≡ Ok (a, q) → Filling n start i p xs → Filling n start (i + 1) q (set xs i a)
-  filling_more n start i p xs a q room h e inv = record {
-    long = length-set xs i a ∙ inv.long;
-    filled = filled_more size blank i xs a (omega arith) inv.long inv.filled;
-    left = left_stored wrap one n start i p xs a q h (omega (arith, inv.long)) e inv.left;
-  }
-
-  pub filling_stop : (n start i p : ℕ) (xs : List A) (e : F) → i < n → under (wrap i) (one p) ≡ Err e → Filling n start i p xs → row_at wrap one 0 n start ≡ Err e
-  filling_stop n start i p xs e h d inv = left_stop wrap one n start i p (take i xs) e h d inv.left
-
-  -- the array is what was read, with blanks behind it
-  pub filling_end : (n start i p : ℕ) (xs : List A) → n ≤ i → Filling n start i p xs → (row_at wrap one 0 n start ≡ Ok (take i xs, p)) × (xs ≡ padded size blank (take i xs))
-  filling_end n start i p xs h inv = (left_end wrap one n start i p (take i xs) h inv.left, inv.filled)
-
--- The same loop over a reader, whose bytes stay: of n values from where it stood at the start, i stand in xs.
-module _ {A : Type 0} (f : Format FieldFault A) (size : ℕ) (blank : A) (n : ℕ) (start : Reader) where
-  abbrev one : ℕ → Reading FieldFault A
-  one = read f (all_bits start.bytes.now)
-
-  abbrev pub Storing : ℕ → Reader → List A → Type 0
-  Storing i reader xs = (reader.bytes ≡ start.bytes) × Filling (λ i e. e) one size blank n start.at i reader.at xs
-
-  pub storing_start : Storing 0 start (replicate size blank)
-  storing_start = (refl, filling_start (λ i e. e) one size blank n start.at)
-
-  -- what was read over the same bytes
-  over : (reader : Reader) (r : Reading FieldFault A) → reader.bytes ≡ start.bytes → read f (all_bits reader.bytes.now) reader.at ≡ r → under (λ e. e) (one reader.at) ≡ under (λ e. e) r
-  over reader r same e = ap (λ b. under (λ e. e) (read f (all_bits b.now) reader.at)) (sym same) ∙ ap (under (λ e. e)) e
-
-  pub storing_more : (i : ℕ) (reader after : Reader) (xs : List A) (a : A) → n ≤ size → i < n → read f (all_bits reader.bytes.now) reader.at ≡ Ok (a, after.at) → after.bytes ≡ reader.bytes → Storing i reader xs → Storing (i + 1) after (set xs i a)
-  storing_more i reader after xs a room h e stays inv =
-      (stays ∙ inv.0, filling_more (λ i e. e) one size blank n start.at i reader.at xs a after.at room h (over reader (Ok (a, after.at)) inv.0 e) inv.1)
-
-  pub storing_stop : (i : ℕ) (reader after : Reader) (xs : List A) (e : FieldFault) (r : Result (List A) FieldFault) → i < n → read f (all_bits reader.bytes.now) reader.at ≡ Err e → IsErrAnd r (λ y. y ≡ e) → Storing i reader xs → Fills size blank n f start r after
-  storing_stop i reader after xs e (Ok t) h d by inv = absurd by
-  storing_stop i reader after xs e (Err y) h d by inv =
-      filling_stop (λ i e. e) one size blank n start.at i reader.at xs e h (over reader (Err e) inv.0 d) inv.1 ∙ ap Err (sym by)
-
-  pub storing_end : (i : ℕ) (reader : Reader) (xs : List A) → n ≤ i → Storing i reader xs → Fills size blank n f start (Ok xs) reader
-  storing_end i reader xs h inv =
-      let end = filling_end (λ i e. e) one size blank n start.at i reader.at xs h inv.1 in
-      (take i xs, end.0, end.1)

@@ -29,6 +29,11 @@ followed_ok (Err x) next b q e = let z : ◌≡◌ {A = ℕ} 0 1 = cc in absurd 
 pub followed_by : {F A B : Type 0} (r : Reading F A) (next : A → ℕ → Reading F B) (a : A) (q : ℕ) → r ≡ Ok (a, q) → followed r next ≡ next a q
 followed_by {F} {A} r next a q e = ap (λ (x : Reading F A). followed x next) e
 
+-- what is made of what was read
+pub made_of : {F A B C : Type 0} {b : B} {q : ℕ} (f : A → B) (g : B → C) (r : Reading F A) → followed r (λ a p. Ok (f a, p)) ≡ Ok (b, q) → followed r (λ a p. Ok (g (f a), p)) ≡ Ok (g b, q)
+made_of {b} {q} f g (Ok x) e = let same = ok_same (f x.0) b x.1 q e in ap₂ (λ c p. Ok (g c, p)) same.0 same.1
+made_of f g (Err x) e = let z : ◌≡◌ {A = ℕ} 0 1 = cc in absurd (omega arith)
+
 pub under_ok : {E F A : Type 0} (wrap : E → F) (r : Reading E A) (a : A) (q : ℕ) → under wrap r ≡ Ok (a, q) → r ≡ Ok (a, q)
 under_ok wrap (Ok x) a q e = cc
 under_ok wrap (Err x) a q e = let z : ◌≡◌ {A = ℕ} 0 1 = cc in absurd (omega arith)

@@ -1,7 +1,8 @@
 -- Formats of bits, as a small language: what a format reads at a bit, how it writes a value, and which values it can write.
-use Rattle.std.specs.Prelude.{◌≡◌, ℕ, zero, suc, ◌+◌, ◌-◌, ◌%◌, ◌^◌, ◌<◌, ◌≤◌, Bool, true, false, cond, ◌&&◌, List, [], ◌∷◌, ◌++◌, reverse, length, take, Ok, Err, MatchBool, Result, MatchResult, nat_le}
+use Rattle.std.specs.Prelude.{◌≡◌, ℕ, zero, suc, ◌+◌, ◌-◌, ◌%◌, ◌^◌, ◌<◌, ◌≤◌, Bool, true, false, cond, ◌&&◌, List, [], ◌∷◌, ◌++◌, reverse, length, take, Ok, Err, MatchBool, OnErr, Result, MatchResult, nat_le}
 use Rattle.std.specs.List.{flat_map, AllByRecursion}
-use Rattle.fixed.specs.Lists.{padded}
+use Rattle.fixed.specs.Lists.{filled}
+use Rattle.fixed.specs.declared.list.FixedList.{FixedList}
 use Rattle.bits.specs.Bits.{all_bits, bits_of, number, piece}
 use Rattle.bits.specs.declared.reader.Reader.{Reader}
 use Rattle.format.specs.declared.fault.FieldFault.{FieldFault}
@@ -70,10 +71,25 @@ read (either b f g) bits p = cond b (read f bits p) (read g bits p)
 read (inside wrap f) bits p = under wrap (read f bits p)
 read (many n wrap f) bits p = row_at wrap (read f bits) 0 n p
 
--- r is what a format reads where a reader stands, and where it is a value the reader stands behind it afterwards
+-- of a result r that a reader gives so much is known, and its bytes stay
+pub record Yields {F A : Type 0} (value_so : A → Type 0) (fault_so : F → Type 0) (before : Reader) (r : Result A F) (after : Reader) : Type 0 where
+  pub value : MatchResult r value_so fault_so
+  pub bytes : after.bytes ≡ before.bytes
+
+-- r is what a reading answers where a reader stands, and where it is a value the reader stands behind it afterwards
+abbrev pub ReadsBy : {F A : Type 0} → (List Bool → ℕ → Reading F A) → Reader → Result A F → Reader → Type 0
+ReadsBy one before r after =
+    let read_here = one (all_bits before.bytes.now) before.at in
+    Yields (λ a. read_here ≡ Ok (a, after.at)) (λ e. read_here ≡ Err e) before r after
+
+-- the same of what a format reads
 abbrev pub Reads : {F A : Type 0} → Format F A → Reader → Result A F → Reader → Type 0
-Reads f before r after =
-    MatchResult r (λ a. read f (all_bits before.bytes.now) before.at ≡ Ok (a, after.at)) (λ e. read f (all_bits before.bytes.now) before.at ≡ Err e)
+Reads f = ReadsBy (read f)
+
+-- the same, and after a fault the reader is as it was
+pub record Takes {F A : Type 0} (f : Format F A) (before : Reader) (r : Result A F) (after : Reader) : Type 0 where
+  pub reads : Reads f before r after
+  pub stays : OnErr r (after ≡ before)
 
 -- the bits by which a format writes a value
 abbrev pub write : {F A : Type 0} → Format F A → A → List Bool
@@ -106,8 +122,6 @@ Sound (either b f g) = (b ≡ true → Sound f) × (b ≡ false → Sound g)
 Sound (inside wrap f) = Sound f
 Sound (many n wrap f) = Sound f
 
--- r is a table of so many places, filled with n values that are read where a reader stands, which stands behind them afterwards
-abbrev pub Fills : {A : Type 0} → ℕ → A → ℕ → Format FieldFault A → Reader → Result (List A) FieldFault → Reader → Type 0
-Fills {A} size blank n f before r after =
-    let row = read (many n (λ i e. e) f) (all_bits before.bytes.now) before.at in
-    MatchResult r (λ t. (xs : List A) × (row ≡ Ok (xs, after.at)) × (t ≡ padded size blank xs)) (λ e. row ≡ Err e)
+-- n values in a row that are kept in a table of so many places, with blanks behind them
+abbrev pub list_at : {F A : Type 0} → (size : ℕ) → A → ℕ → (List Bool → ℕ → Reading F A) → List Bool → ℕ → Reading F (FixedList A size)
+list_at size blank n one bits p = followed (row_at (λ i e. e) (one bits) 0 n p) (λ xs q. Ok (filled size blank xs, q))

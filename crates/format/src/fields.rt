@@ -1,5 +1,5 @@
-ghost use Rattle.std.specs.Prelude.{◌≡◌, ◌^◌, ◌<◌, ◌≤◌, IfOk, OnErr};
-ghost use Rattle.format.specs.Formats.{field as limited_field, turned as turned_field, Reads};
+ghost use Rattle.std.specs.Prelude.{◌^◌, ◌<◌, ◌≤◌, IfOk};
+ghost use Rattle.format.specs.Formats.{field as limited_field, turned as turned_field, Takes};
 
 use crate::fault::FieldFault;
 use bits::Reader;
@@ -7,10 +7,8 @@ use bits::Reader;
 // Reads a field, of which the last 64 bits count, and stands behind it.
 // A value outside the limits is refused, and the reader stays as it was.
 pub fn field(reader: &mut Reader<'_>, width: u64, least: u64, most: u64) -> Result<u64, FieldFault>
-    ensures value { Reads (limited_field width least most) reader.old result reader.new }
+    ensures takes { Takes (limited_field width least most) reader.old result reader.new }
     ensures limits { IfOk result (λ v. (v < 2 ^ width) × (least ≤ v) × (v ≤ most)) }
-    ensures bytes { reader.new.bytes ≡ reader.old.bytes }
-    ensures stays { OnErr result (reader.new ≡ reader.old) }
 {
     let mut ahead = *reader;
     let value = ahead.read(width)?;
@@ -26,10 +24,8 @@ pub fn field(reader: &mut Reader<'_>, width: u64, least: u64, most: u64) -> Resu
 
 // Reads a field whose first bit is worth 1, the next 2, and so on. Of a wider field the last 64 bits count.
 pub fn turned(reader: &mut Reader<'_>, width: u64) -> Result<u64, FieldFault>
-    ensures value { Reads (turned_field width) reader.old result reader.new }
+    ensures takes { Takes (turned_field width) reader.old result reader.new }
     ensures limits { IfOk result (λ v. v < 2 ^ width) }
-    ensures bytes { reader.new.bytes ≡ reader.old.bytes }
-    ensures stays { OnErr result (reader.new ≡ reader.old) }
 {
     let value = reader.read(width)?;
     if width == 0 {

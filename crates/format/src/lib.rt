@@ -3,8 +3,8 @@
 
 mod fault;
 mod fields;
-mod refusing;
+mod lists;
 
 pub use fault::FieldFault;
 pub use fields::{field, turned};
-pub use refusing::field_refusal;
+pub use lists::{Element, list};

@@ -5,6 +5,7 @@ ghost use Rattle.house.specs.contracts.table.TableOrder.TheImpl.{ghosts as order
 
 use crate::description::{House, MAX_ROWS};
 use crate::table::Table;
+use fixed::FixedList;
 use tables::{Graded, Listed, TableFault};
 
 impl House {
@@ -14,7 +15,7 @@ impl House {
         ensures law { Decides (is_ok result) (IsHouse self.now) }
     {
         match self {
-            House::Listed { count, rows } => Ok(Table::Listed(listed_table(*count, rows)?)),
+            House::Listed(rows) => Ok(Table::Listed(listed_table(rows)?)),
             House::Graded {
                 levels,
                 compartments,
@@ -23,15 +24,13 @@ impl House {
     }
 }
 
-// The lattice of the first `count` rows.
-fn listed_table(count: u64, rows: &[u32; MAX_ROWS]) -> Result<Listed, TableFault>
-    ensures answer { Built listed.meaning (House.Listed count rows.now) result }
-    ensures law { Decides (is_ok result) (IsHouse (House.Listed count rows.now)) }
+// The lattice of the rows. More than there is room for are refused.
+fn listed_table(rows: &FixedList<u32, MAX_ROWS>) -> Result<Listed, TableFault>
+    ensures answer { Built listed.meaning (House.Listed rows.now) result }
+    ensures law { Decides (is_ok result) (IsHouse (House.Listed rows.now)) }
 {
-    if count > MAX_ROWS as u64 {
+    if rows.count > MAX_ROWS as u64 {
         return Err(TableFault::Rows);
     }
-    let mut table = Listed::new();
-    table.write(&rows[0..count as usize])?;
-    Ok(table)
+    Listed::try_from(rows.as_slice())
 }

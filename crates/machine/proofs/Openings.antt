@@ -4,7 +4,7 @@ use Rattle.std.proofs.lemmas.Grind.{common_steps}
 use Rattle.std.proofs.lemmas.List.{places, get_or_append_left, length-set, length-replicate, get_or-set_same, get_or-set_other, get_or-replicate, get_or_past}
 use Rattle.std.proofs.lemmas.Bool.{eqb-true, eq-eqb, cases_eq, cases_lt}
 use Rattle.fixed.specs.Lists.{padded}
-use Rattle.format.proofs.Loops.{length_padded}
+use Rattle.fixed.proofs.Padding.{length_padded}
 use Rattle.refusal.specs.Judging.{accepted}
 use Rattle.refusal.specs.declared.Side.{Side}
 use Rattle.refusal.specs.declared.Side.TheVariants.{Near, Far}

@@ -2,7 +2,7 @@
 use Rattle.std.proofs.Common.{◌≡◌, ℕ, zero, suc, ◌<◌, ◌≤◌, Bool, true, false, eqb, ltb, List, MatchBool, refl, ap, ◌∙◌, arith}
 use Rattle.std.proofs.lemmas.Bool.{ltb-true, ltb-false}
 use Rattle.format.specs.Formats.{Sound}
-use Rattle.format.proofs.Loops.{take_padded}
+use Rattle.fixed.proofs.Padding.{list_of_filled}
 use Rattle.script.specs.Lines.{Batch, batch, blank, kind_of, compute, copy, target_of, source_of, batch_of, meant}
 use Rattle.script.specs.Scripts.{assignment, assignments, line, script}
 use Rattle.script.specs.declared.line.Assignment.{Assignment}
@@ -37,7 +37,7 @@ assignment_sound = (
 
 -- the assignments that a batch was made of
 pub meant_batch : (xs : List Assignment) → meant (batch xs) ≡ xs
-meant_batch xs = take_padded 8 blank xs
+meant_batch xs = list_of_filled 8 blank xs
 
 pub assignments_sound : Sound assignments
 unfolding assignments

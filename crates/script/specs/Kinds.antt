@@ -1,8 +1,8 @@
 -- The kinds of lines by their numbers, as a reader finds them.
-use Rattle.std.specs.Prelude.{◌≡◌, ℕ, Ok, Err, Result, MatchResult}
+use Rattle.std.specs.Prelude.{◌≡◌, ℕ, Ok, Err, Result}
 use Rattle.bits.specs.Bits.{all_bits}
 use Rattle.bits.specs.declared.reader.Reader.{Reader}
-use Rattle.format.specs.Formats.{field, read}
+use Rattle.format.specs.Formats.{field, read, Yields}
 use Rattle.format.specs.declared.fault.FieldFault.{FieldFault}
 use Rattle.refusal.specs.declared.Side.TheVariants.{Near, Far}
 use Rattle.script.specs.declared.reading.LineKind.{LineKind}
@@ -22,4 +22,4 @@ kind_number Inward = 7
 abbrev pub ReadsKind : Reader → Result LineKind FieldFault → Reader → Type 0
 ReadsKind before r after =
     let number = read (field 3 0 7) (all_bits before.bytes.now) before.at in
-    MatchResult r (λ k. number ≡ Ok (kind_number k, after.at)) (λ e. number ≡ Err e)
+    Yields (λ k. number ≡ Ok (kind_number k, after.at)) (λ e. number ≡ Err e) before r after

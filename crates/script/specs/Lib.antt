@@ -1,4 +1,5 @@
 pub mod Operations
 pub mod Lines
+pub mod Faults
 pub mod Scripts
 pub mod Kinds

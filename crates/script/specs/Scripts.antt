@@ -1,8 +1,8 @@
 -- Scripts as formats: assignments, lines, and a whole script.
-use Rattle.std.specs.Prelude.{◌≡◌, ℕ, suc, ◌+◌, ◌-◌, ◌^◌, Bool, List, length, Ok, Err, Result, MatchResult, ◌==◌, nat_lt}
+use Rattle.std.specs.Prelude.{◌≡◌, ℕ, suc, ◌+◌, ◌-◌, ◌^◌, Bool, List, length, Ok, Err, Result, ◌==◌, nat_lt}
 use Rattle.bits.specs.Bits.{all_bits, piece}
 use Rattle.bits.specs.declared.reader.Reader.{Reader}
-use Rattle.format.specs.Formats.{Format, done, field, part, either, inside, many, read}
+use Rattle.format.specs.Formats.{Format, done, field, part, either, inside, many, read, Yields}
 use Rattle.format.specs.declared.fault.FieldFault.{FieldFault}
 use Rattle.script.specs.Lines.{assigned, Batch, batch, kind_of, compute, copy, target_of, source_of, batch_of, meant}
 use Rattle.script.specs.declared.fault.ScriptFault.{ScriptFault}
@@ -48,8 +48,8 @@ script =
 -- r is how many lines were read where a reader stands, and the reader stands behind the last of them afterwards
 abbrev pub Passes : Reader → Result ℕ ScriptFault → Reader → Type 0
 Passes before r after =
-    MatchResult r (λ n. (ls : List Line) × (read script (all_bits before.bytes.now) before.at ≡ Ok (ls, after.at)) × (length ls ≡ n))
-    (λ e. read script (all_bits before.bytes.now) before.at ≡ Err e)
+    let read_here = read script (all_bits before.bytes.now) before.at in
+    Yields (λ n. (ls : List Line) × (read_here ≡ Ok (ls, after.at)) × (length ls ≡ n)) (λ e. read_here ≡ Err e) before r after
 
 -- what was read between two bits is read wherever the same bits stand
 abbrev pub OnlyTheseBits : List Bool → ℕ → ℕ → Type 0
@@ -60,4 +60,4 @@ OnlyTheseBits bits p q =
 abbrev pub PassesLines : ℕ → Reader → Result (Unit {0}) ScriptFault → Reader → Type 0
 PassesLines n before r after =
     let lines = read (many n (λ i e. on_line (suc i) e) line) (all_bits before.bytes.now) before.at in
-    MatchResult r (λ _. (ls : List Line) × (lines ≡ Ok (ls, after.at))) (λ e. lines ≡ Err e)
+    Yields (λ _. (ls : List Line) × (lines ≡ Ok (ls, after.at))) (λ e. lines ≡ Err e) before r after

@@ -1,8 +1,8 @@
 ghost use Rattle.std.specs.Prelude.{◌≡◌};
-ghost use Rattle.format.specs.Faults.{field_refusal};
+ghost use Rattle.script.specs.Faults.{script_refused};
 
-use format::{FieldFault, field_refusal};
-use refusal::Refusal;
+use format::FieldFault;
+use refusal::{Refusal, Refused};
 
 // A fault in reading a script, with its line, from 1; line 0 is the number of lines itself.
 #[derive(Clone, Copy, Debug)]
@@ -11,11 +11,13 @@ pub struct ScriptFault {
     pub fault: FieldFault,
 }
 
-impl ScriptFault {
-    // What is refused, apart from the line.
-    pub fn refusal(&self) -> Refusal
-        ensures { result ≡ field_refusal self.now.fault }
-    {
-        field_refusal(self.fault)
+impl From<ScriptFault> for Refused {
+    ghost from_gives = { λ fault r. r ≡ script_refused fault };
+
+    fn from(fault: ScriptFault) -> Refused {
+        Refused {
+            line: fault.line,
+            refusal: Refusal::from(fault.fault),
+        }
     }
 }

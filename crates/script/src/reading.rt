@@ -1,7 +1,6 @@
 ghost use Rattle.std.specs.Prelude.{◌≡◌, ◌≤◌, IfOk, OnErr, OnOk};
 ghost use Rattle.bits.specs.Bits.{all_bits};
-ghost use Rattle.format.specs.Formats.{Reads, Fills, field as count_field, inside};
-ghost use Rattle.script.specs.Lines.{blank};
+ghost use Rattle.format.specs.Formats.{Reads, Takes, field as count_field, inside, read};
 ghost use Rattle.script.specs.Scripts.{item_field, assignment as assignment_format, assignments as assignments_format, line as line_format, on_line, Passes, PassesLines, OnlyTheseBits};
 ghost use Rattle.script.specs.Kinds.{ReadsKind};
 
@@ -10,72 +9,61 @@ use crate::line::{Assignment, Line};
 use crate::operation::Operation;
 use bits::Reader;
 use fixed::FixedList;
-use format::{FieldFault, field};
+use format::{Element, FieldFault, field, list};
 use refusal::Side;
 
 // 7 bits: the number of an item.
 fn item(reader: &mut Reader<'_>) -> Result<u64, FieldFault>
-    ensures value { Reads item_field reader.old result reader.new }
-    ensures bytes { reader.new.bytes ≡ reader.old.bytes }
+    ensures { Reads item_field reader.old result reader.new }
 {
     field(reader, 7, 0, 127)
 }
 
-// 3 bits operation, 7 bits target, and a constant or one or two operands.
-#[tactic(auto, unfolding(crate::specs::Scripts::assignment))]
-fn assignment(reader: &mut Reader<'_>) -> Result<Assignment, FieldFault>
-    ensures value { Reads assignment_format reader.old result reader.new }
-    ensures bytes { reader.new.bytes ≡ reader.old.bytes }
-{
-    let operation = field(reader, 3, 0, 5)?;
-    let target = item(reader)?;
-    let begun = Assignment {
-        operation,
-        target,
-        ..Assignment::BLANK
-    };
-    match Operation::try_from(operation) {
-        Ok(Operation::Put) => Ok(Assignment {
-            constant: field(reader, 64, 0, u64::MAX)?,
-            ..begun
-        }),
-        Ok(Operation::Copy) => Ok(Assignment {
-            left: item(reader)?,
-            ..begun
-        }),
-        Ok(Operation::Sum | Operation::Difference | Operation::Smaller | Operation::Larger) => {
-            Ok(Assignment {
-                left: item(reader)?,
-                right: item(reader)?,
-                ..begun
-            })
-        }
-        Err(_) => unreachable!(),
-    }
-}
+// An assignment: 3 bits operation, 7 bits target, and a constant or one or two operands.
+struct AssignmentField;
 
-// So many assignments, with blanks behind them.
-fn so_many_assignments(reader: &mut Reader<'_>, count: u64) -> Result<[Assignment; 8], FieldFault>
-    requires { count ≤ 8 }
-    ensures value { Fills 8 blank count assignment_format reader.old result reader.new }
-    ensures bytes { reader.new.bytes ≡ reader.old.bytes }
-{
-    let mut table = [Assignment::BLANK; 8];
-    for place in 0..count {
-        table[place as usize] = assignment(reader)?;
+impl Element for AssignmentField {
+    type Value = Assignment;
+
+    ghost reading = { λ _. read assignment_format };
+
+    #[tactic(auto, unfolding(crate::specs::Scripts::assignment))]
+    fn read(&self, reader: &mut Reader<'_>) -> Result<Assignment, FieldFault> {
+        let operation = field(reader, 3, 0, 5)?;
+        let target = item(reader)?;
+        let begun = Assignment {
+            operation,
+            target,
+            ..Assignment::BLANK
+        };
+        match Operation::try_from(operation) {
+            Ok(Operation::Put) => Ok(Assignment {
+                constant: field(reader, 64, 0, u64::MAX)?,
+                ..begun
+            }),
+            Ok(Operation::Copy) => Ok(Assignment {
+                left: item(reader)?,
+                ..begun
+            }),
+            Ok(Operation::Sum | Operation::Difference | Operation::Smaller | Operation::Larger) => {
+                Ok(Assignment {
+                    left: item(reader)?,
+                    right: item(reader)?,
+                    ..begun
+                })
+            }
+            Err(_) => unreachable!(),
+        }
     }
-    Ok(table)
 }
 
 // 4 bits count, then the assignments.
 #[tactic(auto, unfolding(crate::specs::Scripts::assignments))]
 fn assignments(reader: &mut Reader<'_>) -> Result<FixedList<Assignment, 8>, FieldFault>
-    ensures value { Reads assignments_format reader.old result reader.new }
-    ensures bytes { reader.new.bytes ≡ reader.old.bytes }
+    ensures { Reads assignments_format reader.old result reader.new }
 {
     let count = field(reader, 4, 0, 8)?;
-    let places = so_many_assignments(reader, count)?;
-    Ok(FixedList { count, places })
+    list(reader, &AssignmentField, count, Assignment::BLANK)
 }
 
 // What a line does, and in which house.
@@ -90,8 +78,7 @@ enum LineKind {
 
 // 3 bits: the kind of a line.
 fn kind(reader: &mut Reader<'_>) -> Result<LineKind, FieldFault>
-    ensures value { ReadsKind reader.old result reader.new }
-    ensures bytes { reader.new.bytes ≡ reader.old.bytes }
+    ensures { ReadsKind reader.old result reader.new }
 {
     Ok(match field(reader, 3, 0, 7)? {
         0 => LineKind::Compute(Side::Near),
@@ -109,8 +96,7 @@ fn kind(reader: &mut Reader<'_>) -> Result<LineKind, FieldFault>
 // The kind; then the assignments of a compute, or a target and a source.
 #[tactic(auto, unfolding(crate::specs::Scripts::line))]
 fn line(reader: &mut Reader<'_>) -> Result<Line, FieldFault>
-    ensures value { Reads line_format reader.old result reader.new }
-    ensures bytes { reader.new.bytes ≡ reader.old.bytes }
+    ensures { Reads line_format reader.old result reader.new }
 {
     Ok(match kind(reader)? {
         LineKind::Compute(side) => Line::Compute {
@@ -140,9 +126,7 @@ fn line(reader: &mut Reader<'_>) -> Result<Line, FieldFault>
 
 // The next line, whose fault is told its number. A line that cannot be read leaves the reader where it was.
 pub fn numbered_line(reader: &mut Reader<'_>, number: u64) -> Result<Line, ScriptFault>
-    ensures value { Reads (inside (on_line number) line_format) reader.old result reader.new }
-    ensures bytes { reader.new.bytes ≡ reader.old.bytes }
-    ensures stays { OnErr result (reader.new ≡ reader.old) }
+    ensures { Takes (inside (on_line number) line_format) reader.old result reader.new }
 {
     read_line(reader).map_err(|fault| ScriptFault {
         line: number,
@@ -152,10 +136,8 @@ pub fn numbered_line(reader: &mut Reader<'_>, number: u64) -> Result<Line, Scrip
 
 // 8 bits: how many lines there are. Where they lack the reader stays where it was.
 pub fn line_count(reader: &mut Reader<'_>) -> Result<u64, ScriptFault>
-    ensures value { Reads (inside (on_line 0) (count_field 8 0 255)) reader.old result reader.new }
+    ensures takes { Takes (inside (on_line 0) (count_field 8 0 255)) reader.old result reader.new }
     ensures limit { IfOk result (λ n. n ≤ 255) }
-    ensures bytes { reader.new.bytes ≡ reader.old.bytes }
-    ensures stays { OnErr result (reader.new ≡ reader.old) }
 {
     field(reader, 8, 0, 255).map_err(|fault| ScriptFault { line: 0, fault })
 }
@@ -163,8 +145,7 @@ pub fn line_count(reader: &mut Reader<'_>) -> Result<u64, ScriptFault>
 // So many lines, one at a time.
 fn lines(reader: &mut Reader<'_>, count: u64) -> Result<(), ScriptFault>
     requires { count ≤ 255 }
-    ensures value { PassesLines count reader.old result reader.new }
-    ensures bytes { reader.new.bytes ≡ reader.old.bytes }
+    ensures { PassesLines count reader.old result reader.new }
 {
     for place in 0..count {
         numbered_line(reader, place + 1)?;
@@ -174,8 +155,7 @@ fn lines(reader: &mut Reader<'_>, count: u64) -> Result<(), ScriptFault>
 
 // 8 bits count, then the lines.
 fn script(reader: &mut Reader<'_>) -> Result<u64, ScriptFault>
-    ensures value { Passes reader.old result reader.new }
-    ensures bytes { reader.new.bytes ≡ reader.old.bytes }
+    ensures { Passes reader.old result reader.new }
 {
     let count = line_count(reader)?;
     lines(reader, count)?;
@@ -184,9 +164,7 @@ fn script(reader: &mut Reader<'_>) -> Result<u64, ScriptFault>
 
 // The next line. A line that cannot be read leaves the reader where it was.
 pub fn read_line(reader: &mut Reader<'_>) -> Result<Line, FieldFault>
-    ensures value { Reads line_format reader.old result reader.new }
-    ensures bytes { reader.new.bytes ≡ reader.old.bytes }
-    ensures stays { OnErr result (reader.new ≡ reader.old) }
+    ensures { Takes line_format reader.old result reader.new }
 {
     let mut ahead = *reader;
     let line = line(&mut ahead)?;
@@ -198,8 +176,7 @@ pub fn read_line(reader: &mut Reader<'_>) -> Result<Line, FieldFault>
 // where it was.
 #[tactic(auto, using(crate::proofs::Passing::only_these_bits))]
 pub fn read_script(reader: &mut Reader<'_>) -> Result<u64, ScriptFault>
-    ensures value { Passes reader.old result reader.new }
-    ensures bytes { reader.new.bytes ≡ reader.old.bytes }
+    ensures passes { Passes reader.old result reader.new }
     ensures stays { OnErr result (reader.new ≡ reader.old) }
     ensures only { OnOk result (OnlyTheseBits (all_bits reader.old.bytes.now) reader.old.at reader.new.at) }
 {

@@ -1,6 +1,5 @@
 pub mod Sound
 pub mod Laws
-pub mod Houses
 pub mod Padding
 pub mod Steps
 pub mod Alone

@@ -1,30 +1,25 @@
 -- The format of a sheet and of its parts is sound. Assumes nothing.
-use Rattle.std.proofs.Common.{◌≡◌, ℕ, ◌+◌, ◌≤◌, Bool, true, false, eqb, List, length, take, MatchBool, sym, refl, ap, ◌∙◌, arith}
+use Rattle.std.proofs.Common.{◌≡◌, ℕ, ◌≤◌, Bool, true, false, eqb, List, MatchBool, sym, refl, ap, ◌∙◌, arith}
 use Rattle.std.proofs.lemmas.Bool.{eqb-true, eqb-false}
 use Rattle.agreement.specs.Rules.{no_item}
 use Rattle.agreement.specs.declared.item.Item.{Item}
-use Rattle.fixed.specs.Lists.{padded}
+use Rattle.fixed.specs.Lists.{list_of}
 use Rattle.format.specs.Formats.{Sound, Writes}
-use Rattle.format.proofs.Loops.{take_padded}
+use Rattle.fixed.proofs.Padding.{list_of_filled}
 use Rattle.script.proofs.Sound.{script_sound}
 use Rattle.script.specs.declared.line.Line.{Line}
-use Rattle.sheet.specs.Parts.{meant_rows, meant_entries, meant_items, kind_of, rows_less, levels_less, compartments_of}
+use Rattle.sheet.specs.Parts.{Items, rows_of, kind_of, rows_less, levels_less, compartments_of}
 use Rattle.house.specs.Houses.{labels}
 use Rattle.sheet.specs.Sheets.{listed, graded, house, entries, item, items, front, sheet}
 use Rattle.house.specs.declared.description.House.{House}
-use Rattle.sheet.specs.declared.parts.Items.{Items}
 use Rattle.sheet.specs.declared.parts.Parts.{Parts}
-
--- the values that a table was filled with
-meant_padded : {A : Type 0} (size : ℕ) (blank : A) (xs : List A) (n : ℕ) → length xs ≡ n → take n (padded size blank xs) ≡ xs
-meant_padded size blank xs n e = ap (λ (k : ℕ). take k (padded size blank xs)) (sym e) ∙ take_padded size blank xs
 
 pub listed_sound : Sound listed
 unfolding listed
 listed_sound = (
   (omega arith, omega arith),
-  (λ m w. ((omega arith, omega (arith, w.2)), (λ rows _. tt), λ rows h v e. ap meant_rows e ∙ meant_padded 32 0 rows (m + 1) v.0)),
-  (λ m h _ w. ap rows_less w.1 ∙ omega arith),
+  (λ m w. ((omega arith, omega (arith, w.2)), (λ rows _. tt), λ rows h v e. ap rows_of e ∙ list_of_filled 32 0 rows)),
+  (λ m h _ w. ap rows_less w.1 ∙ omega (arith, w.0.0)),
 )
 
 pub graded_sound : Sound graded
@@ -59,7 +54,7 @@ house_sound = (
 pub entries_sound : (n : ℕ) → Sound (entries n)
 unfolding entries
 entries_sound n =
-    ((omega arith, omega arith), (λ xs _. tt), λ xs m w e. ap meant_entries e ∙ meant_padded 64 0 xs n w.0)
+    ((omega arith, omega arith), (λ xs _. tt), λ xs m w e. ap list_of e ∙ list_of_filled 64 0 xs)
 
 pub item_sound : Sound item
 unfolding item
@@ -73,8 +68,8 @@ pub items_sound : Sound items
 unfolding items
 items_sound = (
   (omega arith, omega arith),
-  (λ n _. (item_sound, (λ xs _. tt), λ xs m w e. ap meant_items e ∙ meant_padded 255 no_item xs n w.0)),
-  (λ n m _ w. ap (λ (y : Items). y.count) w.1),
+  (λ n _. (item_sound, (λ xs _. tt), λ xs m w e. ap list_of e ∙ list_of_filled 255 no_item xs)),
+  (λ n m _ w. ap (λ (y : Items). y.count) w.1 ∙ w.0.0),
 )
 
 pub front_sound : Sound front

@@ -6,11 +6,9 @@ mod opening;
 mod parts;
 mod reading;
 mod refusing;
-mod verdict;
 mod whole_sheet;
 
 pub use fault::SheetFault;
-pub use opening::open_sheet;
-pub use parts::{Entries, Items, Opened, Parts, Sheet};
-pub use verdict::Verdict;
+pub use opening::{open_houses, open_sheet};
+pub use parts::{Opened, Parts, Sheet};
 pub use whole_sheet::{MOST_BYTES, read_sheet};

@@ -1,59 +1,34 @@
 ghost use Rattle.std.specs.Prelude.{◌≡◌};
-ghost use Rattle.sheet.specs.Parts.{meant_entries, meant_items};
+ghost use Rattle.fixed.specs.Lists.{list_of};
 
 use agreement::{Agreement, Item};
+use fixed::FixedList;
 use house::{House, Table};
 
-// The entries of a map: the first `count` of the table, with zeros behind them.
-#[derive(Clone, Copy)]
-pub struct Entries {
-    pub count: u64,
-    pub entries: [u64; 64],
-}
+// The most labels of a house, and so the most entries of a map.
+pub(crate) const MOST_LABELS: usize = 64;
 
-impl Entries {
-    // The entries that are meant.
-    pub fn as_slice(&self) -> &[u64]
-        ensures { result.now ≡ meant_entries self.now }
-    {
-        &self.entries[0..self.count.min(64) as usize]
-    }
-}
-
-// The items of a house: the first `count` of the table, with working items at label 0 behind them.
-#[derive(Clone, Copy)]
-pub struct Items {
-    pub count: u64,
-    pub items: [Item; 255],
-}
-
-impl Items {
-    // The items that are meant.
-    pub fn as_slice(&self) -> &[Item]
-        ensures { result.now ≡ meant_items self.now }
-    {
-        &self.items[0..self.count.min(255) as usize]
-    }
-}
+// The most items of a house.
+pub(crate) const MOST_ITEMS: usize = 255;
 
 // The parts of a sheet before its script.
 #[derive(Clone, Copy)]
 pub struct Parts {
     pub near: House,
     pub far: House,
-    pub out: Entries,
-    pub back: Entries,
-    pub near_items: Items,
-    pub far_items: Items,
+    pub out: FixedList<u64, MOST_LABELS>,
+    pub back: FixedList<u64, MOST_LABELS>,
+    pub near_items: FixedList<Item, MOST_ITEMS>,
+    pub far_items: FixedList<Item, MOST_ITEMS>,
 }
 
 impl Parts {
     // The agreement between the two houses.
     pub fn agreement(&self) -> Agreement<'_>
-        ensures out { result.out.now ≡ meant_entries self.now.out }
-        ensures back { result.back.now ≡ meant_entries self.now.back }
-        ensures near_items { result.near_items.now ≡ meant_items self.now.near_items }
-        ensures far_items { result.far_items.now ≡ meant_items self.now.far_items }
+        ensures out { result.out.now ≡ list_of self.now.out }
+        ensures back { result.back.now ≡ list_of self.now.back }
+        ensures near_items { result.near_items.now ≡ list_of self.now.near_items }
+        ensures far_items { result.far_items.now ≡ list_of self.now.far_items }
     {
         Agreement {
             out: self.out.as_slice(),
@@ -72,7 +47,7 @@ pub struct Sheet {
     pub lines: u64,
 }
 
-// A sheet whose houses are lattices and whose agreement is certified.
+// A sheet and the lattices of its houses.
 #[derive(Clone, Copy)]
 pub struct Opened {
     pub near: Table,

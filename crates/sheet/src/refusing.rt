@@ -1,60 +1,35 @@
-ghost use Rattle.std.specs.Prelude.{◌≡◌, Some};
-ghost use Rattle.sheet.specs.Verdicts.{sheet_verdict, verdict_text};
+ghost use Rattle.std.specs.Prelude.{◌≡◌};
+ghost use Rattle.sheet.specs.Verdicts.{sheet_verdict, too_much};
 
 use crate::fault::SheetFault;
-use crate::verdict::Verdict;
-use format::field_refusal;
-use refusal::Refusal;
-use std::fmt;
+use refusal::{Refusal, Refused};
 
-impl SheetFault {
-    // What the sheet is refused with.
-    pub fn verdict(&self) -> Verdict
-        ensures { result ≡ sheet_verdict self.now }
-    {
-        let (line, refusal) = match *self {
-            SheetFault::TooLong => (
-                0,
-                Refusal {
-                    number: 3,
-                    side: None,
-                    p: 157_272,
-                    q: 0,
-                },
-            ),
-            SheetFault::Field(fault) => (0, field_refusal(fault)),
-            SheetFault::Script(fault) => (fault.line, fault.refusal()),
-            SheetFault::Trailing { at } => (
-                0,
-                Refusal {
-                    number: 3,
-                    side: None,
-                    p: at,
-                    q: 0,
-                },
-            ),
-            SheetFault::House { side, fault } => (
-                0,
-                Refusal {
-                    side: Some(side),
-                    ..Refusal::from(fault)
-                },
-            ),
-            SheetFault::Agreement(fault) => (0, Refusal::from(fault)),
-        };
-        Verdict { line, refusal }
+// Bits behind what a sheet may have, from this one on.
+fn too_much(at: u128) -> Refusal
+    ensures { result ≡ too_much at }
+{
+    Refusal {
+        number: 3,
+        side: None,
+        p: at,
+        q: 0,
     }
 }
 
-impl fmt::Display for Verdict {
-    ghost output = { λ v. Some (verdict_text v) };
+impl From<SheetFault> for Refused {
+    ghost from_gives = { λ fault r. r ≡ sheet_verdict fault };
 
-    fn fmt<W: fmt::Write>(&self, f: &mut fmt::Formatter<W>) -> fmt::Result {
-        let number = self.refusal.number;
-        let line = self.line;
-        let side = self.refusal.side_number();
-        let p = self.refusal.p;
-        let q = self.refusal.q;
-        write!(f, "REFUSE {number} {line} {side} {p} {q}")
+    fn from(fault: SheetFault) -> Refused {
+        Refused::from(match fault {
+            SheetFault::TooLong => too_much(157_272),
+            SheetFault::Field(fault) => Refusal::from(fault),
+            SheetFault::Script(fault) => return Refused::from(fault),
+            SheetFault::Trailing { at } => too_much(at),
+            SheetFault::House { side, fault } => Refusal {
+                side: Some(side),
+                ..Refusal::from(fault)
+            },
+            SheetFault::Agreement(fault) => Refusal::from(fault),
+        })
     }
 }

@@ -19,10 +19,9 @@ fn only_padding(bytes: &[u8], at: u128) -> bool
     if rest >= 8 {
         return false;
     }
-    match Reader::new(bytes, at).read(rest as u64) {
-        Ok(value) => value == 0,
-        Err(_) => false,
-    }
+    Reader::new(bytes, at)
+        .read(rest as u64)
+        .is_ok_and(|value| value == 0)
 }
 
 // The parts of a sheet and where its script begins, once all of it was read.

@@ -11,10 +11,8 @@ returns-in_err-value c =
     let bs = c.args.reader.now.bytes.now in
     rw (p.1, p.2)
     (record {
-      value = field_lacking bs c.args.width c.args.reader.now.at c.args.least c.args.most c.in_err-value.field-0.0 c.in_err-value.ensures.field;
+      takes = record { reads = record { value = field_lacking bs c.args.width c.args.reader.now.at c.args.least c.args.most c.in_err-value.field-0.0 c.in_err-value.ensures.field; bytes = refl }; stays = refl };
       limits = tt;
-      bytes = refl;
-      stays = refl;
     })
 
 pub returns-then-value-least : goal.returns-then-value-least
@@ -24,13 +22,17 @@ returns-then-value-least c =
     let v = c.in_ok-value.value in
     let end = c.read.new.self.at in
     record {
-      value =
-          field_value bs c.args.width at c.args.least c.args.most v end c.in_ok-value.ensures.field
-          ∙ limited_outside c.args.least c.args.most at v end c.then-value-least.either
-          ∙ ap (λ (n : ℕ). Err (NotAllowed n v)) (sym c.at.ensures);
+      takes = record {
+        reads = record {
+          value =
+              field_value bs c.args.width at c.args.least c.args.most v end c.in_ok-value.ensures.field
+              ∙ limited_outside c.args.least c.args.most at v end c.then-value-least.either
+              ∙ ap (λ (n : ℕ). Err (NotAllowed n v)) (sym c.at.ensures);
+          bytes = refl;
+        };
+        stays = refl;
+      };
       limits = tt;
-      bytes = refl;
-      stays = refl;
     }
 
 pub returns : goal.returns
@@ -41,10 +43,14 @@ returns c =
     let end = c.read.new.self.at in
     let was = c.in_ok-value.ensures in
     record {
-      value =
-          field_value bs c.args.width at c.args.least c.args.most v end was.field
-          ∙ limited_within c.args.least c.args.most at v end c.if-value-least.false c.if-value-most.false;
+      takes = record {
+        reads = record {
+          value =
+              field_value bs c.args.width at c.args.least c.args.most v end was.field
+              ∙ limited_within c.args.least c.args.most at v end c.if-value-least.false c.if-value-most.false;
+          bytes = was.bytes;
+        };
+        stays = tt;
+      };
       limits = (was.below, c.if-value-least.false, c.if-value-most.false);
-      bytes = was.bytes;
-      stays = tt;
     }

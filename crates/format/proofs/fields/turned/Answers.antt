@@ -13,10 +13,8 @@ returns-in_err-value c =
     let was = c.in_err-value.ensures in
     rw (p.1, p.2)
     (record {
-      value = turned_lacking bs c.args.width at c.in_err-value.field-0.0 was.field;
+      takes = record { reads = record { value = turned_lacking bs c.args.width at c.in_err-value.field-0.0 was.field; bytes = was.bytes }; stays = was.stays };
       limits = tt;
-      bytes = was.bytes;
-      stays = was.stays;
     })
 
 pub returns-then-width-eq0 : goal.returns-then-width-eq0
@@ -25,10 +23,8 @@ returns-then-width-eq0 c =
     let end = c.read.new.self.at in
     let was = c.in_ok-value.ensures in
     record {
-      value = turned_value c.args.reader.now.bytes.now c.args.width c.args.reader.now.at v end was.field ∙ ap (λ (n : ℕ). Ok (n, end)) (turned_none c.args.width v c.if-width-eq0.true);
+      takes = record { reads = record { value = turned_value c.args.reader.now.bytes.now c.args.width c.args.reader.now.at v end was.field ∙ ap (λ (n : ℕ). Ok (n, end)) (turned_none c.args.width v c.if-width-eq0.true); bytes = was.bytes }; stays = tt };
       limits = pow_pos c.args.width;
-      bytes = was.bytes;
-      stays = tt;
     }
 
 pub returns : goal.returns
@@ -40,8 +36,6 @@ returns c =
     let same : c.reverse_bits.result / 2 ^ (64 - c.min.result) ≡ number (reverse (bits_of (min w 64) v)) =
     ap₂ (λ (x m : ℕ). x / 2 ^ (64 - m)) c.reverse_bits.ensures c.min.ensures ∙ turned_number w v (below_both w v was.below (omega arith)) in
     record {
-      value = turned_value c.args.reader.now.bytes.now w c.args.reader.now.at v end was.field ∙ ap (λ (n : ℕ). Ok (n, end)) (sym same);
+      takes = record { reads = record { value = turned_value c.args.reader.now.bytes.now w c.args.reader.now.at v end was.field ∙ ap (λ (n : ℕ). Ok (n, end)) (sym same); bytes = was.bytes }; stays = tt };
       limits = subst (λ (n : ℕ). n < 2 ^ w) (sym same) (turned_below w v);
-      bytes = was.bytes;
-      stays = tt;
     }

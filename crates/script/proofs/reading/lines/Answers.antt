@@ -12,11 +12,11 @@ loop-place-preserved c =
     let p = c.loop-place.reader.at in
     let same = c.loop-place.invariant.0 in
     let got = c.in_ok-numbered_line.ensures in (
-      got.bytes ∙ same,
+      got.reads.bytes ∙ same,
       passing_more (λ i e. on_line (suc i) e) (read line (all_bits c.args.reader.now.bytes.now)) c.args.count c.args.reader.now.at c.loop-place.place p
           c.in_ok-numbered_line.field-0 c.numbered_line.new.reader.at c.loop-place-test.true
           (ap (λ (k : ℕ). under (on_line k) (read line (all_bits c.args.reader.now.bytes.now) p)) (sym (add-one c.loop-place.place))
-          ∙ ap (λ b. under (on_line (c.loop-place.place + 1)) (read line (all_bits b.now) p)) (sym same) ∙ got.value) c.loop-place.invariant.1,
+          ∙ ap (λ b. under (on_line (c.loop-place.place + 1)) (read line (all_bits b.now) p)) (sym same) ∙ got.reads.value) c.loop-place.invariant.1,
     )
 
 pub returns-in_err-numbered_line : goal.returns-in_err-numbered_line
@@ -28,10 +28,10 @@ returns-in_err-numbered_line c =
     passing_stop (λ i e. on_line (suc i) e) (read line (all_bits c.args.reader.now.bytes.now)) c.args.count c.args.reader.now.at c.loop-place.place p
     c.in_err-numbered_line.field-0.0 c.loop-place-test.true
     (ap (λ (k : ℕ). under (on_line k) (read line (all_bits c.args.reader.now.bytes.now) p)) (sym (add-one c.loop-place.place))
-    ∙ ap (λ b. under (on_line (c.loop-place.place + 1)) (read line (all_bits b.now) p)) (sym same) ∙ got.value) c.loop-place.invariant.1
+    ∙ ap (λ b. under (on_line (c.loop-place.place + 1)) (read line (all_bits b.now) p)) (sym same) ∙ got.reads.value) c.loop-place.invariant.1
     in
     let out = err_from_is_err_and c.from_residual.result c.from_residual.ensures.1 in
-    record { value = rw (out.1, out.2) stop; bytes = got.bytes ∙ same }
+    record { value = rw (out.1, out.2) stop; bytes = got.reads.bytes ∙ same }
 
 pub returns : goal.returns
 returns c =

@@ -8,7 +8,7 @@ use Rattle.script.proofs.reading.script.Goals as goal
 
 pub returns-in_err-count : goal.returns-in_err-count
 returns-in_err-count c =
-    let got = c.in_err-count.ensures in
+    let got = c.in_err-count.ensures.takes.reads in
     let out = err_from_is_err_and c.from_residual.result c.from_residual.ensures.1 in
     record {
       value = rw (out.1, out.2) (count_fails (all_bits c.args.reader.now.bytes.now) c.args.reader.now.at c.in_err-count.field-0.0 got.value);
@@ -17,7 +17,7 @@ returns-in_err-count c =
 
 pub returns-in_err-lines : goal.returns-in_err-lines
 returns-in_err-lines c =
-    let first = c.in_ok-count.ensures in
+    let first = c.in_ok-count.ensures.takes.reads in
     let got = c.in_err-lines.ensures in
     let n = c.in_ok-count.count in
     let q = c.line_count.new.reader.at in
@@ -31,7 +31,7 @@ returns-in_err-lines c =
 
 pub returns : goal.returns
 returns c =
-    let first = c.in_ok-count.ensures in
+    let first = c.in_ok-count.ensures.takes.reads in
     let got = c.in_ok-lines.ensures in
     let n = c.in_ok-count.count in
     let q = c.line_count.new.reader.at in

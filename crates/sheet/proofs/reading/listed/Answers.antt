@@ -1,27 +1,32 @@
-use Rattle.std.proofs.Common.{◌+◌, sym, ap, ◌∙◌, arith, rules}
+use Rattle.std.proofs.Common.{◌≡◌, ℕ, ◌+◌, min, List, Ok, sym, ◌∙◌, ap₂, arith}
 use Rattle.bits.specs.Bits.{all_bits}
-use Rattle.format.specs.Formats.{many, turned, read}
+use Rattle.fixed.specs.Lists.{filled}
+use Rattle.format.specs.Formats.{Reading, followed, read, row_at, turned}
+use Rattle.format.specs.declared.fault.FieldFault.{FieldFault}
+use Rattle.format.proofs.Readings.{followed_by, made_of}
+use Rattle.house.specs.declared.description.House.TheVariants.{Listed}
+use Rattle.sheet.specs.Parts.{listed_house}
 use Rattle.sheet.specs.Sheets.{listed}
-use Rattle.sheet.proofs.Houses.{listed_read}
 use Rattle.sheet.proofs.reading.listed.Goals as goal
 
-pub returns-in_err-count : goal.returns-in_err-count
+pub returns-clause-reads : goal.returns-clause-reads
 unfolding listed
-returns-in_err-count c = search rules
-
-pub returns-in_err-rows : goal.returns-in_err-rows
-unfolding listed
-returns-in_err-rows c = search rules
-
-pub returns : goal.returns
-returns c =
-    let first = c.in_ok-count.ensures in
-    let got = c.in_ok-rows.ensures in
+returns-clause-reads c =
+    let first = c.in_ok-count.ensures.takes.reads in
+    let got = c.in_ok-rows.ensures.reads in
     let m = c.in_ok-count.field-0 in
     let q = c.field.new.reader.at in
-    let over = ap (λ b. read (many (m + 1) (λ i e. e) (turned (m + 1))) (all_bits b.now) q) (sym first.bytes) ∙ got.value.1 in
+    let all : min (m + 1) 32 ≡ m + 1 = omega (arith, c.in_ok-count.ensures.limits) in
+    let row : List ℕ → ℕ → Reading FieldFault (List ℕ) = λ b n. row_at (λ i e. e) (read (turned (m + 1)) (all_bits b)) 0 n q in
     record {
-      value = listed_read (all_bits c.args.reader.now.bytes.now) c.args.reader.now.at m q got.value.0 c.in_ok-rows.rows c.rows.new.reader.at first.value over got.value.2;
-      limits = (omega arith, omega (arith, first.limits));
+      value =
+          followed_by _ (λ m q. followed (row_at (λ i e. e) (read (turned (m + 1)) (all_bits c.args.reader.now.bytes.now)) 0 (m + 1) q) (λ xs r. Ok (listed_house xs, r))) m q first.value
+          ∙ ap₂ (λ b n. followed (row b.now n) (λ xs r. Ok (listed_house xs, r))) (sym first.bytes) (sym all)
+          ∙ made_of (filled 32 0) Listed (row c.field.new.reader.bytes.now (min (m + 1) 32)) got.value;
       bytes = got.bytes ∙ first.bytes;
     }
+
+pub returns-clause-limits : goal.returns-clause-limits
+returns-clause-limits c =
+    let all = c.in_ok-rows.ensures.all in
+    (omega (arith, all), omega (arith, all))

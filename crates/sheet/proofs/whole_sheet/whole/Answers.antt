@@ -31,7 +31,7 @@ returns-in_err-lines c =
     let e = c.in_err-lines.field-0.0 in
     let out = err_from_is_err_and c.from_residual-in_err-lines.result c.from_residual-in_err-lines.ensures.1 in
     let first = moved front new.result.bytes.now bytes new.result.at 0 (Ok (parts, after.at)) new.ensures.bytes new.ensures.at c.in_ok-parts.ensures.value in
-    let got = moved script after.bytes.now bytes after.at after.at (Err e) same refl c.in_err-lines.ensures.value in
+    let got = moved script after.bytes.now bytes after.at after.at (Err e) same refl c.in_err-lines.ensures.passes.value in
     rw (out.1, out.2) (script_stops bytes c.if-bytes-gt-MOST_BYTES.false parts after.at first e got)
 
 -- what was read before the padding was looked at
@@ -43,7 +43,7 @@ read_so_far c =
     let end = c.read_script.new.reader in
     let same = ap (λ x. x.now) c.in_ok-parts.ensures.bytes ∙ new.ensures.bytes in
     let parts = c.in_ok-parts.parts in
-    let value = c.in_ok-lines.ensures.value in
+    let value = c.in_ok-lines.ensures.passes.value in
     let first = moved front new.result.bytes.now bytes new.result.at 0 (Ok (parts, after.at)) new.ensures.bytes new.ensures.at c.in_ok-parts.ensures.value in
     let got = moved script after.bytes.now bytes after.at after.at (Ok (value.0, end.at)) same refl value.1 in (
       value.0,
