@@ -4,4 +4,3 @@ pub mod Bytes
 pub mod Laws
 pub mod Loops
 pub mod Parts
-pub mod Slices

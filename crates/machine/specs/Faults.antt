@@ -3,9 +3,9 @@ use Rattle.std.specs.Prelude.{ℕ, Some, None, Option}
 use Rattle.refusal.specs.declared.Refusal.{Refusal}
 use Rattle.refusal.specs.declared.Side.{Side}
 use Rattle.refusal.specs.declared.refused.Refused.{Refused}
-use Rattle.format.specs.Faults.{field_refusal}
 use Rattle.agreement.specs.Faults.{fault_refusal}
 use Rattle.agreement.specs.Roles.{role_number}
+use Rattle.script.specs.Faults.{script_refused}
 use Rattle.machine.specs.declared.fault.CallFault.{CallFault}
 use Rattle.machine.specs.declared.fault.CallFault.TheVariants.{WrongStage, Agreement, Values, Step, Script}
 use Rattle.machine.specs.declared.fault.LineFault.{LineFault}
@@ -38,7 +38,7 @@ abbrev pub line_refused : LineFault → Refused
 line_refused e = at_line e.line (step_refusal e.fault)
 
 abbrev pub run_refused : RunFault → Refused
-run_refused (Unreadable e) = at_line e.line (field_refusal e.fault)
+run_refused (Unreadable e) = script_refused e
 run_refused (Line e) = line_refused e
 
 abbrev pub call_refused : CallFault → Refused

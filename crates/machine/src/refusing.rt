@@ -50,10 +50,7 @@ impl From<RunFault> for Refused {
 
     fn from(fault: RunFault) -> Refused {
         match fault {
-            RunFault::Unreadable(fault) => Refused {
-                line: fault.line,
-                refusal: fault.refusal(),
-            },
+            RunFault::Unreadable(fault) => Refused::from(fault),
             RunFault::Line(fault) => Refused::from(fault),
         }
     }

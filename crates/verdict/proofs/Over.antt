@@ -1,5 +1,6 @@
 -- A session over the houses of a sheet, with the sheet's agreement. Assumes nothing.
 use Rattle.std.proofs.Common.{◌≡◌, ℕ, List, Ok, Err, subst, arith}
+use Rattle.fixed.specs.Lists.{list_of}
 use Rattle.refusal.specs.Judging.{Judgement, accepted, under}
 use Rattle.order.specs.Orders.{PartialOrder}
 use Rattle.agreement.specs.Agreements.{Joint, agreed, joint}
@@ -12,13 +13,12 @@ use Rattle.machine.specs.declared.fault.CallFault.TheVariants.{Agreement as in_a
 use Rattle.machine.specs.declared.stage.Stage.TheVariants.{Certified}
 use Rattle.session.specs.Records.{certify_judged}
 use Rattle.session.specs.declared.record.Session.{Session}
-use Rattle.sheet.specs.Parts.{meant_entries, meant_items}
 use Rattle.sheet.specs.declared.parts.Parts.{Parts}
 use Rattle.sheet.specs.declared.parts.Sheet.{Sheet}
 use Rattle.verdict.specs.Opening.{CallRefused, described, HousesStand}
 
 -- the agreement that is handed on is the one that the sheet describes
-pub handed_on : (N F : PartialOrder) (parts : Parts) (a : Agreement) → a.out.now ≡ meant_entries parts.out → a.back.now ≡ meant_entries parts.back → a.near_items.now ≡ meant_items parts.near_items → a.far_items.now ≡ meant_items parts.far_items → agreed N F a ≡ described N F parts
+pub handed_on : (N F : PartialOrder) (parts : Parts) (a : Agreement) → a.out.now ≡ list_of parts.out → a.back.now ≡ list_of parts.back → a.near_items.now ≡ list_of parts.near_items → a.far_items.now ≡ list_of parts.far_items → agreed N F a ≡ described N F parts
 handed_on N F parts a p q r s = λ i. joint N F (p i) (q i) (r i) (s i)
 
 -- a certified session over the sheet's houses, where J is the agreement that it was handed

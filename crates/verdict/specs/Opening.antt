@@ -1,5 +1,6 @@
 -- Opening a sheet: reading it, making its houses, and certifying its agreement in a session between them, in this order.
 use Rattle.std.specs.Prelude.{◌≡◌, ℕ, List, Ok, Err, Result, MatchResult}
+use Rattle.fixed.specs.Lists.{list_of}
 use Rattle.refusal.specs.Judging.{accepted}
 use Rattle.refusal.specs.declared.Side.{Side}
 use Rattle.refusal.specs.declared.Side.TheVariants.{Near, Far}
@@ -15,7 +16,6 @@ use Rattle.machine.specs.declared.fault.CallFault.{CallFault}
 use Rattle.machine.specs.declared.fault.CallFault.TheVariants.{WrongStage, Agreement, Values, Step, Script}
 use Rattle.machine.specs.declared.stage.Stage.TheVariants.{Certified}
 use Rattle.session.specs.Records.{known}
-use Rattle.sheet.specs.Parts.{meant_entries, meant_items}
 use Rattle.sheet.specs.Reading.{ReadsSheet}
 use Rattle.sheet.specs.declared.parts.Parts.{Parts}
 use Rattle.sheet.specs.declared.parts.Sheet.{Sheet}
@@ -27,7 +27,7 @@ use Rattle.verdict.specs.declared.opened.Opened.{Opened}
 -- the agreement that a sheet describes, between two orders
 abbrev pub described : PartialOrder → PartialOrder → Parts → Joint
 described N F parts =
-    joint N F (meant_entries parts.out) (meant_entries parts.back) (meant_items parts.near_items) (meant_items parts.far_items)
+    joint N F (list_of parts.out) (list_of parts.back) (list_of parts.near_items) (list_of parts.far_items)
 
 -- r is the lattice that a house describes, or its fault with its side
 abbrev pub Made : (Table → PartialOrder) → Side → Described → Result Table JudgeFault → Type 0

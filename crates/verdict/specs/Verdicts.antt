@@ -19,7 +19,7 @@ use Rattle.verdict.specs.declared.opened.Verdict.TheVariants.{Accept, Refuse}
 
 -- what each fault of a sheet is refused with: its line, and number, side, p and q
 abbrev pub judge_refused : JudgeFault → Refused
-judge_refused (in_sheet e) = let v = sheet_verdict e in record { line = v.line; refusal = v.refusal }
+judge_refused (in_sheet e) = sheet_verdict e
 judge_refused (House side e) =
     let r = refusal_of e in
     record { line = 0; refusal = record { number = r.number; side = Some side; p = r.p; q = r.q } }

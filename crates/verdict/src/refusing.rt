@@ -10,13 +10,7 @@ impl JudgeFault {
         ensures { result ≡ judge_refused self.now }
     {
         match *self {
-            JudgeFault::Sheet(fault) => {
-                let verdict = fault.verdict();
-                Refused {
-                    line: verdict.line,
-                    refusal: verdict.refusal,
-                }
-            }
+            JudgeFault::Sheet(fault) => Refused::from(fault),
             JudgeFault::House { side, fault } => Refused {
                 line: 0,
                 refusal: Refusal {

@@ -6,21 +6,21 @@ use Rattle.steps.proofs.scripts.do_script.Goals as goal
 
 pub returns-in_default : goal.returns-in_default
 returns-in_default c =
-    absurd (not_failed (uncounted c.new-reader.result c.new-reader.ensures.bytes c.new-reader.ensures.at c.in_default.field-0 c.in_default.ensures.value) c.requires)
+    absurd (not_failed (uncounted c.new-reader.result c.new-reader.ensures.bytes c.new-reader.ensures.at c.in_default.field-0 c.in_default.ensures.takes.reads.value) c.requires)
 
 pub loop-passed-init : goal.loop-passed-init
 loop-passed-init c = ([], lines_start c.in-Ok.count c.line_count.new.reader, refl)
 
 pub returns-in_default-numbered_line : goal.returns-in_default-numbered_line
 returns-in_default-numbered_line c =
-    let first = c.in-Ok.ensures in
+    let first = c.in-Ok.ensures.takes.reads in
     let whole = counted c.new-reader.result c.new-reader.ensures.bytes c.new-reader.ensures.at c.in-Ok.count c.line_count.new.reader first.bytes first.value in
-    absurd (not_failed (script_stops whole _ _ c.loop-passed.invariant.0 _ (omega arith) c.in_default-numbered_line.ensures.value c.loop-passed.invariant.1) c.requires)
+    absurd (not_failed (script_stops whole _ _ c.loop-passed.invariant.0 _ (omega arith) c.in_default-numbered_line.ensures.reads.value c.loop-passed.invariant.1) c.requires)
 
 pub loop-passed-preserved : goal.loop-passed-preserved
 loop-passed-preserved c =
     let ls = c.loop-passed.invariant.0 in
-    let got = c.in-Ok-numbered_line.ensures in
+    let got = c.in-Ok-numbered_line.ensures.reads in
     let l = c.in-Ok-numbered_line.line in (
       ls ++ l ∷ [],
       lines_more c.in-Ok.count c.line_count.new.reader c.loop-passed.passed c.loop-passed.reader c.numbered_line.new.reader ls l
@@ -30,7 +30,7 @@ loop-passed-preserved c =
 
 pub returns : goal.returns
 returns c =
-    let first = c.in-Ok.ensures in
+    let first = c.in-Ok.ensures.takes.reads in
     let whole = counted c.new-reader.result c.new-reader.ensures.bytes c.new-reader.ensures.at c.in-Ok.count c.line_count.new.reader first.bytes first.value in
     c.loop-passed.invariant.2
     ∙ ap (all_written c.args.values.now) (writes_are c.args.bytes.now c.args.at c.loop-passed.invariant.0 c.loop-passed.reader.at
