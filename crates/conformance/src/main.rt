@@ -1,6 +1,7 @@
 // Sheets in hexadecimal, one to a line of standard input, with the verdict of each: OPEN, or how it is refused.
 #![tactic(auto)]
 
+use refusal::Refused;
 use sheet::open_sheet;
 use std::alloc::{AllocError, Global};
 
@@ -33,7 +34,7 @@ fn spelled(heap: Global, line: &[u8]) -> Result<Vec<u8>, AllocError> {
 fn verdict(rt: &HostRuntime, bytes: &[u8]) -> anyhow::Result<()> {
     match open_sheet(bytes) {
         Ok(_) => println!(rt; "OPEN")?,
-        Err(fault) => rt.println(fault.verdict())?,
+        Err(fault) => rt.println(Refused::from(fault))?,
     }
     Ok(())
 }
