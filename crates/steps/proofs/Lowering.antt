@@ -56,24 +56,22 @@ for_house_append Near Far xs ys = refl
 for_house_append Far Near xs ys = refl
 for_house_append Far Far xs ys = refl
 
-module _ (J : Joint) (s : Side) (xs : List Assignment) where
-  pub none_lowers : (b : Lowest) → LowersBoth J (compute s (take 0 xs)) b b
-  none_lowers b = by s
-    where
-      by : (s : Side) → LowersBoth J (compute s (take 0 xs)) b b
-      by Near = (lowers_none (J.order Near) b.near, lowers_none (J.order Far) b.far)
-      by Far = (lowers_none (J.order Near) b.near, lowers_none (J.order Far) b.far)
+-- more labels in both houses, one list after the other
+pub both_then : (J : Joint) (f g : Side → List ℕ) (b c d : Lowest) → LowersBy J f b c → LowersBy J g c d → LowersBy J (λ u. f u ++ g u) b d
+both_then J f g b c d one two = (
+  lowers_then (J.order Near) (f Near) (g Near) b.near c.near d.near one.0 two.0,
+  lowers_then (J.order Far) (f Far) (g Far) b.far c.far d.far one.1 two.1,
+)
 
+module _ (J : Joint) (s : Side) (xs : List Assignment) where
   abbrev label : Assignment → ℕ
   label a = label_of (J.items s) a.target
 
   -- the target of one assignment more
   pub target_lowers : (i : ℕ) (b c d : Lowest) → i < length xs → LowersBoth J (compute s (take i xs)) b c → LowersBy J (λ u. for_house s u (label (get_or xs i blank) ∷ [])) c d → LowersBoth J (compute s (take (i + 1) xs)) b d
   target_lowers i b c d h before one =
-      (more Near b.near c.near d.near before.0 one.0, more Far b.far c.far d.far before.1 one.1)
+      let both = both_then J (λ u. for_house s u (map label (take i xs))) (λ u. for_house s u (label (get_or xs i blank) ∷ [])) b c d before one in
+      (subst (λ (l : List ℕ). Lowers (J.order Near) l b.near d.near) (same Near) both.0, subst (λ (l : List ℕ). Lowers (J.order Far) l b.far d.far) (same Far) both.1)
     where
-      more : (u : Side) (b c d : Option ℕ) → Lowers (J.order u) (for_house s u (map label (take i xs))) b c → Lowers (J.order u) (for_house s u (label (get_or xs i blank) ∷ [])) c d → Lowers (J.order u) (for_house s u (map label (take (i + 1) xs))) b d
-      more u b c d before one =
-          subst (λ (l : List ℕ). Lowers (J.order u) l b d)
-          (for_house_append s u (map label (take i xs)) (label (get_or xs i blank) ∷ []) ∙ ap (for_house s u) (sym (map_more label xs i blank h)))
-          (lowers_then (J.order u) (for_house s u (map label (take i xs))) (for_house s u (label (get_or xs i blank) ∷ [])) b c d before one)
+      same : (u : Side) → (for_house s u (map label (take i xs)) ++ for_house s u (label (get_or xs i blank) ∷ [])) ≡ for_house s u (map label (take (i + 1) xs))
+      same u = for_house_append s u _ _ ∙ ap (for_house s u) (sym (map_more label xs i blank h))

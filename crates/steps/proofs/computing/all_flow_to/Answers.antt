@@ -1,13 +1,7 @@
-use Rattle.std.proofs.Common.{length, Some}
-use Rattle.refusal.proofs.Judging.{check_at, left_none, left_more, left_err, left_all}
-use Rattle.machine.specs.Steps.{pair_judged}
+use Rattle.std.proofs.Common.{Some}
+use Rattle.refusal.proofs.Judging.{check_at, left_more, left_err}
 use Rattle.machine.specs.declared.fault.StepFault.TheVariants.{NotAllowed}
 use Rattle.steps.proofs.computing.all_flow_to.Goals as goal
-
-pub loop-place-init : goal.loop-place-init
-loop-place-init g c =
-    left_none (pair_judged (g.O.Order.meaning c.args.order.now) c.args.side c.args.items.now c.args.assignments.now c.args.target)
-    (length c.args.assignments.now)
 
 pub loop-place-preserved : goal.loop-place-preserved
 loop-place-preserved g c =
@@ -20,6 +14,3 @@ returns-then-not-operands_flow g c =
     let k = c.loop-place.place in
     left_err c.loop-place.invariant c.loop-place-test.true
     (check_at (NotAllowed (Some c.args.side) c.args.target k) (rw c.requires at c.if-not-operands_flow.ensures))
-
-pub returns : goal.returns
-returns g c = left_all c.loop-place.invariant c.loop-place-test.false

@@ -1,15 +1,12 @@
-use Rattle.std.proofs.Common.{[], ◌∷◌, ◌++◌, refl, ap, ◌∙◌, arith}
+use Rattle.std.proofs.Common.{[], ◌∷◌, ◌++◌, ap, ◌∙◌, arith}
 use Rattle.machine.specs.Places.{all_written}
-use Rattle.steps.proofs.Rereading.{counted, uncounted, lines_start, lines_more, script_stops, script_ends}
+use Rattle.steps.proofs.Rereading.{counted, uncounted, lines_more, script_stops, script_ends}
 use Rattle.steps.proofs.Running.{not_failed, writes_are, written_push}
 use Rattle.steps.proofs.scripts.do_script.Goals as goal
 
 pub returns-in_default : goal.returns-in_default
 returns-in_default c =
     absurd (not_failed (uncounted c.new-reader.result c.new-reader.ensures.bytes c.new-reader.ensures.at c.in_default.field-0 c.in_default.ensures.takes.reads.value) c.requires)
-
-pub loop-passed-init : goal.loop-passed-init
-loop-passed-init c = ([], lines_start c.in-Ok.count c.line_count.new.reader, refl)
 
 pub returns-in_default-numbered_line : goal.returns-in_default-numbered_line
 returns-in_default-numbered_line c =
