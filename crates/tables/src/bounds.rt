@@ -103,6 +103,7 @@ fn judge_bounds_after<O: Order>(order: &O, which: Bound, a: u64) -> Result<(), T
 }
 
 // Every two labels have the bound.
+#[tactic(auto, using(refusal::proofs::Judging::left_more))]
 pub(crate) fn judge_bounds<O: Order>(order: &O, which: Bound) -> Result<(), TableFault>
     ensures { result ≡ bounds_judged which (O.Order.meaning order.now).count (O.Order.meaning order.now).flow }
 {

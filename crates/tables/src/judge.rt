@@ -7,6 +7,7 @@ ghost use Rattle.tables.specs.Listed.{reflexive_at, antisymmetric_at, transitive
 use crate::fault::TableFault;
 use crate::rows::{MAX_ROWS, Rows};
 
+#[tactic(auto, using(refusal::proofs::Judging::left_more, refusal::proofs::Judging::left_break))]
 impl Rows<'_> {
     // Every label flows to itself.
     fn judge_reflexive(&self) -> Result<(), TableFault>
