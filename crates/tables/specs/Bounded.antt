@@ -1,17 +1,13 @@
 -- Judging all pairs of labels, and whether two labels have a least upper one. A greatest lower label is a least upper one where flow runs the other way.
-use Rattle.std.specs.Prelude.{◌≡◌, ℕ, zero, suc, ◌+◌, ◌-◌, ◌<◌, Bool, true, false, not, ◌&&◌, ◌||◌, List, IfSome, Some, None, Option}
+use Rattle.std.specs.Prelude.{◌≡◌, ℕ, zero, suc, ◌+◌, ◌-◌, ◌<◌, Bool, false, not, ◌&&◌, ◌||◌, List, IfSome, Some, None, Option}
 use Rattle.order.specs.Orders.{PartialOrder}
 use Rattle.order.specs.Bounds.{Upper, Supremum}
+use Rattle.order.specs.Search.{all_below}
 use Rattle.order.specs.declared.bound.Bound.{Bound}
 use Rattle.order.specs.declared.bound.Bound.TheVariants.{Join, Meet}
 use Rattle.refusal.specs.Judging.{Judgement, check, each_from}
 use Rattle.tables.specs.declared.fault.TableFault.{TableFault}
 use Rattle.tables.specs.declared.fault.TableFault.TheVariants.{NoJoin, NoMeet}
-
--- the test holds of every number below n
-abbrev pub all_below : (ℕ → Bool) → ℕ → Bool
-all_below p zero = true
-all_below p (suc n) = p n && all_below p n
 
 -- the test holds of some number below n
 abbrev pub any_below : (ℕ → Bool) → ℕ → Bool

@@ -4,14 +4,14 @@ use Rattle.std.proofs.Common.{sym, subst, arith}
 use Rattle.std.proofs.Math.Nat.{le-max_left, le-max_right, max-le, min-le_left, min-le_right, le-min}
 use Rattle.std.specs.Int.Bits.{and_lt}
 use Rattle.std.proofs.lemmas.Nat.{pow_pos, mod_below, div_below, div-mul-add, mod-mul-add, mul-add-lt, or_lt}
+use Rattle.std.proofs.lemmas.Nat.Bits.{bit_at_and, bit_at_or}
 use Rattle.order.specs.Bounds.{Supremum, toward}
 use Rattle.order.specs.declared.bound.Bound.{Bound}
 use Rattle.order.specs.declared.bound.Bound.TheVariants.{Join, Meet}
 use Rattle.order.proofs.Suprema.{toward_count}
 use Rattle.tables.specs.Graded.{Limited, labels, level_of, set_of, level_bound, set_bound}
-use Rattle.tables.specs.GradedSets.{Inside, and_bit, inside_bits, bits_inside}
+use Rattle.tables.specs.GradedSets.{Inside, inside_bits, bits_inside}
 use Rattle.tables.specs.GradedOrder.{graded, flow_true, flow_from_parts}
-use Rattle.tables.specs.Sets.{or_bit}
 
 -- z is the least above x and y
 record Least (R : ℕ → ℕ → Type 0) (x y z : ℕ) : Type 0 where
@@ -34,14 +34,14 @@ level_least Meet x y = record { left = min-le_left x y; right = min-le_right x y
 
 set_least : (w : Bound) (x y : ℕ) → Least (Wider w) x y (set_bound w x y)
 set_least Join x y = record {
-  left = bits_inside x (bit_or x y) (λ c. omega (arith, or_bit x y c));
-  right = bits_inside y (bit_or x y) (λ c. omega (arith, or_bit x y c));
-  least = λ d h k. bits_inside (bit_or x y) d (λ c. omega (arith, or_bit x y c, inside_bits x d h c, inside_bits y d k c));
+  left = bits_inside x (bit_or x y) (λ c. omega (arith, bit_at_or x y c));
+  right = bits_inside y (bit_or x y) (λ c. omega (arith, bit_at_or x y c));
+  least = λ d h k. bits_inside (bit_or x y) d (λ c. omega (arith, bit_at_or x y c, inside_bits x d h c, inside_bits y d k c));
 }
 set_least Meet x y = record {
-  left = bits_inside (bit_and x y) x (λ c. omega (arith, and_bit x y c));
-  right = bits_inside (bit_and x y) y (λ c. omega (arith, and_bit x y c));
-  least = λ d h k. bits_inside d (bit_and x y) (λ c. omega (arith, and_bit x y c, inside_bits d x h c, inside_bits d y k c));
+  left = bits_inside (bit_and x y) x (λ c. omega (arith, bit_at_and x y c));
+  right = bits_inside (bit_and x y) y (λ c. omega (arith, bit_at_and x y c));
+  least = λ d h k. bits_inside d (bit_and x y) (λ c. omega (arith, bit_at_and x y c, inside_bits d x h c, inside_bits d y k c));
 }
 
 level_below : (w : Bound) (x y n : ℕ) → x < n → y < n → level_bound w x y < n

@@ -3,7 +3,8 @@ use Rattle.std.specs.Prelude.{◌≡◌, ℕ, ◌-◌, ◌≤◌, Bool, not, ◌
 use Rattle.order.specs.Bounds.{IsLattice}
 use Rattle.order.specs.declared.bound.Bound.TheVariants.{Join, Meet}
 use Rattle.refusal.specs.Judging.{Judgement, ◌⨟◌, check, each_from}
-use Rattle.tables.specs.Bounded.{all_below, each_pair, bounds_judged}
+use Rattle.order.specs.Search.{all_below}
+use Rattle.tables.specs.Bounded.{each_pair, bounds_judged}
 use Rattle.tables.specs.Rows.{rows_flow, listed_order, IsOrder}
 use Rattle.tables.specs.declared.fault.TableFault.{TableFault}
 use Rattle.tables.specs.declared.fault.TableFault.TheVariants.{Rows, NotReflexive, NotAntisymmetric, NotTransitive}

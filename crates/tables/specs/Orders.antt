@@ -6,7 +6,7 @@ use Rattle.std.proofs.lemmas.Bool.Decides.{Decides-not, Decides-and}
 use Rattle.refusal.proofs.Deciding.{decides_leb, decides_self, decides_implied}
 use Rattle.refusal.proofs.Fitting.{Fits, fits_as, check_fits, then_fits, below_fits}
 use Rattle.refusal.proofs.Judging.{check_at, then_at}
-use Rattle.tables.specs.Bounded.{all_below}
+use Rattle.order.specs.Search.{all_below}
 use Rattle.tables.specs.Listed.{carries, laws_judged, order_judged, OrderRows}
 use Rattle.tables.specs.Rows.{listed_flow, rows_flow, flow_known, IsOrder}
 use Rattle.tables.specs.declared.fault.TableFault.TheVariants.{Rows, NotReflexive, NotAntisymmetric, NotTransitive}

@@ -6,7 +6,8 @@ use Rattle.std.proofs.lemmas.Bool.Decides.{Decides-below_and, Decides-below_or}
 use Rattle.refusal.specs.Judging.{Judgement}
 use Rattle.refusal.proofs.Deciding.{decides_self, decides_implied, decides_never}
 use Rattle.refusal.proofs.Fitting.{Fits, fits_as, each_fits, below_fits}
-use Rattle.tables.specs.Bounded.{all_below, any_below, each_pair}
+use Rattle.order.specs.Search.{all_below}
+use Rattle.tables.specs.Bounded.{any_below, each_pair}
 
 pub decides_all : (p : ℕ → Bool) (P : ℕ → Type 0) → ((k : ℕ) → Decides (p k) (P k)) → (n : ℕ) → Decides (all_below p n) ((k : ℕ) → k < n → P k)
 decides_all p P each n = Decides-below_and p P (all_below p) each refl (λ _. refl) n

@@ -1,18 +1,15 @@
 -- Sets of bits: unions, and inclusion of the bits below a bound. Assumes nothing.
-use Rattle.std.specs.Prelude.{◌≡◌, ℕ, ◌+◌, ◌-◌, ◌/◌, ◌%◌, ◌^◌, ◌<◌, ◌≤◌, max, Decides, ◌==◌, bit_and, bit_or}
+use Rattle.std.specs.Prelude.{◌≡◌, ℕ, ◌+◌, ◌-◌, ◌/◌, ◌%◌, ◌^◌, ◌<◌, ◌≤◌, Decides, ◌==◌, bit_and}
 use Rattle.std.proofs.Common.{ap, ◌∙◌, ⊎_elim, arith, pow_mono}
 use Rattle.std.proofs.Math.Nat.{div-eq_of_lt}
-use Rattle.std.specs.Int.Bits.{or_step}
-use Rattle.std.proofs.lemmas.Nat.{field_of, mod-pow-add, mod_below, pow_pos, or_shr}
+use Rattle.std.proofs.lemmas.Nat.{field_of, mod-pow-add, mod_below, pow_pos}
 use Rattle.std.proofs.lemmas.Bool.{cases_lt}
 use Rattle.std.proofs.lemmas.Bool.Decides.{Decides-eqb, Decides-like}
-use Rattle.tables.specs.GradedSets.{bit, inside_bits, bits_inside}
-
-pub or_bit : (x y c : ℕ) → bit (bit_or x y) c ≡ max (bit x c) (bit y c)
-or_bit x y c = ap (λ (z : ℕ). z % 2) (or_shr x y c) ∙ omega (arith, or_step (x / 2 ^ c) (y / 2 ^ c))
+use Rattle.std.specs.Int.{bit_at}
+use Rattle.tables.specs.GradedSets.{inside_bits, bits_inside}
 
 -- the lowest n bits stay, and the others are cut off
-cut_below : (x n c : ℕ) → c < n → bit (x % 2 ^ n) c ≡ bit x c
+cut_below : (x n c : ℕ) → c < n → bit_at (x % 2 ^ n) c ≡ bit_at x c
 cut_below x n c h =
     let whole : n ≡ ((n - c - 1) + 1) + c = omega arith in
     let field = ap (λ (m : ℕ). x % 2 ^ m / 2 ^ c) whole ∙ field_of x ((n - c - 1) + 1) c in
@@ -26,7 +23,7 @@ cut_above x n c h =
     div-eq_of_lt under
 
 -- the lowest n bits of x are bits of y
-pub decides_inside : (n x y : ℕ) → Decides (bit_and (x % 2 ^ n) y == x % 2 ^ n) ((c : ℕ) → c < n → bit x c ≤ bit y c)
+pub decides_inside : (n x y : ℕ) → Decides (bit_and (x % 2 ^ n) y == x % 2 ^ n) ((c : ℕ) → c < n → bit_at x c ≤ bit_at y c)
 decides_inside n x y =
     Decides-like (bit_and (x % 2 ^ n) y == x % 2 ^ n)
     (λ e c l. omega (arith, inside_bits (x % 2 ^ n) y e c, cut_below x n c l))
