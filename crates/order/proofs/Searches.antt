@@ -1,7 +1,8 @@
 -- The search for a least upper label finds the one that there is. Assumes nothing.
-use Rattle.std.proofs.Common.{◌≡◌, ℕ, zero, suc, ◌<◌, ◌≤◌, Bool, true, false, cond, not, ◌||◌, ltb, List, [], ◌∷◌, is_some, Some, None, Option, sym, refl, ap, ◌∙◌, ⊎_elim, eq-or-lt_of_le, arith}
+use Rattle.std.proofs.Common.{◌≡◌, ℕ, zero, suc, ◌<◌, ◌≤◌, Bool, true, false, cond, not, ◌||◌, ltb, List, [], ◌∷◌, is_some, Some, None, Decides, Option, sym, refl, ap, ◌∙◌, ⊎_elim, eq-or-lt_of_le, arith}
 use Rattle.std.proofs.Math.Bool.{Bool-set}
 use Rattle.std.proofs.Math.Logic.{∥∥₁_elim, ∥∥₁_map}
+use Rattle.std.proofs.lemmas.Bool.Decides.{Decides-below_and}
 use Rattle.std.proofs.lemmas.Bool.{ltb-true, lt-ltb, and_parts, and_from, both_ways, cond-true, cond-false, cases_Bool, or_cases, or_left, or_right, not-true, not_from_false}
 use Rattle.order.specs.Orders.{PartialOrder, dual}
 use Rattle.order.specs.Bounds.{Known, Upper, Supremum, Joined, Joins}
@@ -29,16 +30,8 @@ pub upper_known : (P : PartialOrder) (xs : List ℕ) (c : ℕ) → Upper P xs c 
 upper_known P [] c up = tt
 upper_known P (x ∷ xs) c up = ((P.known x c up.0).0, upper_known P xs c up.1)
 
-all_true : (test : ℕ → Bool) (n : ℕ) → ((d : ℕ) → d < n → test d ≡ true) → all_below test n ≡ true
-all_true test zero all = refl
-all_true test (suc n) all = and_from (test n) (all_below test n) (all n (omega arith)) (all_true test n (λ d h. all d (omega arith)))
-
-true_all : (test : ℕ → Bool) (n : ℕ) → all_below test n ≡ true → (d : ℕ) → d < n → test d ≡ true
-true_all test zero e d h = absurd (omega arith)
-true_all test (suc n) e d h =
-    let both = and_parts (test n) (all_below test n) e in
-    let le : d ≤ n = omega arith in
-    ⊎_elim (λ q. ap test q ∙ both.0) (λ l. true_all test n both.1 d l) (eq-or-lt_of_le le)
+decides_all : (test : ℕ → Bool) (n : ℕ) → Decides (all_below test n) ((d : ℕ) → d < n → test d ≡ true)
+decides_all test n = Decides-below_and test (λ d. test d ≡ true) (all_below test) (λ d. (λ e. e, λ e. e)) refl (λ _. refl) n
 
 finds : (test : ℕ → Bool) (n c : ℕ) → c < n → test c ≡ true → (k : ℕ) × (some_below test n ≡ Some k) × (k < n) × (test k ≡ true)
 finds test zero c h e = absurd (omega arith)
@@ -55,7 +48,7 @@ module _ (P : PartialOrder) (xs : List ℕ) where
   supremum_true : (c : ℕ) → Supremum P xs c → is_supremum P xs c ≡ true
   supremum_true c s =
       and_from (is_upper P xs c) (all_below (λ d. not (is_upper P xs d) || P.flow c d) P.count) (upper_true P xs c s.upper)
-      (all_true (λ d. not (is_upper P xs d) || P.flow c d) P.count (λ d h.
+      ((decides_all (λ d. not (is_upper P xs d) || P.flow c d) P.count).1 (λ d h.
       ⊎_elim (λ up. or_right (not (is_upper P xs d)) (P.flow c d) (s.least d h (true_upper P xs d up)))
       (λ no_up. or_left (not (is_upper P xs d)) (P.flow c d) (not_from_false (is_upper P xs d) no_up)) (cases_Bool (is_upper P xs d))))
 
@@ -67,7 +60,7 @@ module _ (P : PartialOrder) (xs : List ℕ) where
         upper = true_upper P xs c both.0;
         least = λ d l up.
             ⊎_elim (λ no_up. absurd (both_ways (is_upper P xs d) (not-true (is_upper P xs d) no_up) (upper_true P xs d up))) (λ f. f)
-            (or_cases (not (is_upper P xs d)) (P.flow c d) (true_all (λ d. not (is_upper P xs d) || P.flow c d) P.count both.1 d l));
+            (or_cases (not (is_upper P xs d)) (P.flow c d) ((decides_all (λ d. not (is_upper P xs d) || P.flow c d) P.count).0 both.1 d l));
       }
 
   -- what is found is the one that there is

@@ -1,14 +1,9 @@
-use Rattle.std.proofs.Common.{[], Some, sym, ap, ◌∙◌, arith}
+use Rattle.std.proofs.Common.{[], sym, ◌∙◌, arith}
 use Rattle.std.proofs.lemmas.Bool.{false≢true}
 use Rattle.order.specs.Bounds.{toward}
 use Rattle.order.proofs.Suprema.{passed_taken, passed_left, supremum_kept, bottom, toward_count, toward_meets}
 use Rattle.order.proofs.fold.bound_of_none.Goals as goal
 use Rattle.order.proofs.fold.bound_of_none.Goals.{then-flows_toward, else-flows_toward}
-
-pub loop-label-init : goal.loop-label-init
-loop-label-init g c =
-    let Q = g.L.Order.meaning c.args.lattice.now in
-    record { above = (omega (arith, toward_count c.args.which Q, Q.nonempty), tt); first = λ b l s. ap Some (omega arith) }
 
 pub loop-label-preserved : goal.loop-label-preserved
 loop-label-preserved g c =
