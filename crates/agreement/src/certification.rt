@@ -1,7 +1,7 @@
 ghost use Rattle.std.specs.Prelude.{◌≡◌, is_ok, IfErr, Decides};
 ghost use Rattle.refusal.specs.Judging.{◌⨟◌, under};
 ghost use Rattle.refusal.specs.declared.Side.TheVariants.{Near, Far};
-ghost use Rattle.agreement.specs.Agreements.{agreed, joined};
+ghost use Rattle.agreement.specs.Agreements.{joined};
 ghost use Rattle.agreement.specs.Certified.{certified, rule_judged, rules, on, FirstBroken, Holds};
 
 use crate::fault::{Broken, Fault};
@@ -70,21 +70,4 @@ impl<'a, N: Order, F: Order> Joined<'a, N, F> {
     {
         self.judge()
     }
-}
-
-pub fn certify<N: Order, F: Order>(
-    near: &N,
-    far: &F,
-    agreement: &Agreement<'_>,
-) -> Result<(), Fault>
-    ensures verdict { result ≡ certified (agreed (N.Order.meaning near.now) (F.Order.meaning far.now) agreement.now) }
-    ensures exact { Decides (is_ok result) (Holds (agreed (N.Order.meaning near.now) (F.Order.meaning far.now) agreement.now)) }
-    ensures first { IfErr result (FirstBroken (agreed (N.Order.meaning near.now) (F.Order.meaning far.now) agreement.now) rules) }
-{
-    let joined = Joined {
-        near,
-        far,
-        agreement: *agreement,
-    };
-    joined.certify()
 }

@@ -3,7 +3,6 @@
 
 mod certification;
 mod fault;
-mod free;
 mod item;
 mod joined;
 mod map;
@@ -11,11 +10,10 @@ mod rule;
 mod trip;
 mod views;
 
-pub use certification::{Agreement, certify};
+pub use certification::Agreement;
 pub use fault::{Broken, Fault};
-pub use free::{image, lawful, monotone, move_allowed, rising, round_trip, settled, stable, total};
 pub use item::{Item, Role, UnknownRole, role_number};
 pub use joined::Joined;
 pub use map::LabelMap;
 pub use trip::RoundTrip;
-pub use views::{View, items_in_view, items_up_to, view_of};
+pub use views::{View, items_up_to};

@@ -1,9 +1,8 @@
 ghost use Rattle.std.specs.Prelude.{◌≡◌, IfOk, vec_items};
 ghost use Rattle.std.specs.Option.{option_map};
-ghost use Rattle.agreement.specs.Agreements.{agreed, joined};
+ghost use Rattle.agreement.specs.Agreements.{joined};
 ghost use Rattle.agreement.specs.Views.{view_at, view_in, highest_in, listed, Lists, ListsView};
 
-use crate::certification::Agreement;
 use crate::item::Item;
 use crate::joined::Joined;
 use order::Order;
@@ -96,40 +95,4 @@ impl<'a, N: Order, F: Order> Joined<'a, N, F> {
         )?;
         Ok(Some(items))
     }
-}
-
-pub fn view_of<N: Order, F: Order>(
-    near: &N,
-    far: &F,
-    agreement: &Agreement<'_>,
-    side: Side,
-    label: u64,
-) -> Option<View>
-    ensures { result ≡ view_in (agreed (N.Order.meaning near.now) (F.Order.meaning far.now) agreement.now) side label }
-{
-    let joined = Joined {
-        near,
-        far,
-        agreement: *agreement,
-    };
-    joined.view(side, label)
-}
-
-pub fn items_in_view<N: Order, F: Order>(
-    heap: Global,
-    near: &N,
-    far: &F,
-    agreement: &Agreement<'_>,
-    side: Side,
-    label: u64,
-    house: Side,
-) -> Result<Option<Vec<u64>>, AllocError>
-    ensures { IfOk result (λ o. ListsView (agreed (N.Order.meaning near.now) (F.Order.meaning far.now) agreement.now) side label house (option_map vec_items o)) }
-{
-    let joined = Joined {
-        near,
-        far,
-        agreement: *agreement,
-    };
-    joined.items_in_view(heap, side, label, house)
 }
