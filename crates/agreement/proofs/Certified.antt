@@ -1,7 +1,7 @@
 -- Certification accepts exactly where the agreement holds, and else names the first broken case. Assumes nothing.
-use Rattle.std.proofs.Common.{◌≡◌, ℕ, ◌<◌, ◌≤◌, Bool, true, false, cond, not, ◌||◌, eqb, ltb, leb, ◌⊎◌, List, [], ◌∷◌, length, get_or, drop, is_ok, IfErr, Ok, Err, Decides, sym, refl, ap, ◌∙◌, subst}
-use Rattle.std.proofs.lemmas.Bool.{ltb-true, lt-ltb, leb-true, le-leb, eqb-true, eqb-false, eq-eqb, and_from, and_parts}
-use Rattle.std.proofs.lemmas.Bool.Decides.{Decides-at, Decides-eqb, Decides-ltb}
+use Rattle.std.proofs.Common.{◌≡◌, ℕ, ◌<◌, ◌≤◌, Bool, true, false, cond, not, ◌||◌, eqb, ltb, leb, ◌⊎◌, List, [], ◌∷◌, length, get_or, drop, is_ok, IfErr, Ok, Err, Decides, ◌≢◌, sym, refl, ap, ◌∙◌, subst}
+use Rattle.std.proofs.lemmas.Bool.{eqb-true, eqb-false, eq-eqb}
+use Rattle.std.proofs.lemmas.Bool.Decides.{Decides-at, Decides-like, Decides-and, Decides-eqb, Decides-ltb}
 use Rattle.refusal.specs.Judging.{Judgement, check, each_from, under}
 use Rattle.refusal.specs.Sides.{other}
 use Rattle.refusal.specs.declared.Side.{Side}
@@ -11,7 +11,7 @@ use Rattle.refusal.proofs.Fitting.{Fits, never, fits_as, check_fits, then_fits, 
 use Rattle.order.specs.Orders.{PartialOrder}
 use Rattle.agreement.specs.Maps.{at, is_settled}
 use Rattle.agreement.specs.Rules.{total_judged, monotone_judged, rising_judged, stable_judged, items_judged, keeps, rises, stays, lawful_item, no_item}
-use Rattle.agreement.specs.Connection.{Total, Monotone, Rising, Stable, Lawful, LawfulItems}
+use Rattle.agreement.specs.Connection.{Total, Monotone, Rising, Stable, Settled, Lawful, LawfulItems}
 use Rattle.agreement.specs.Agreements.{Joint}
 use Rattle.agreement.specs.Certified.{rule_judged, rules, all_judged, certified, on, Keeps, Breaks, FirstBroken, Smallest, SmallestPair, Holds}
 use Rattle.agreement.specs.declared.item.Item.{Item}
@@ -71,21 +71,20 @@ module _ (P Q : PartialOrder) (m w : List ℕ) where
         (λ a h. Decides-at (stays P Q m w a) (eqb (at m (at w (at m a))) (at m a)) (stays_total P Q m w t u a h) (Decides-eqb (at m (at w (at m a))) (at m a)))
 
     decides_lawful : (x : Item) → Decides (lawful_item P Q m w x) (Lawful P m w x)
-    decides_lawful x = (λ h. let both = and_parts (leb x.role 2) (label_test (eqb x.role 0)) h in there both.0 (eqb x.role 0) refl both.1, back)
+    decides_lawful x =
+        Decides-like (lawful_item P Q m w x) (λ k. record { role = k.0; label = k.1.0; settled = k.1.1 }) (λ l. (l.role, (l.label, l.settled)))
+        (Decides-and (leb x.role 2) (label_test (eqb x.role 0)) (decides_leb x.role 2) (decides_label (eqb x.role 0) refl))
       where
         label_test : Bool → Bool
         label_test b = cond b (ltb x.label P.count) (is_settled P Q m w x.label)
 
-        there : leb x.role 2 ≡ true → (b : Bool) → eqb x.role 0 ≡ b → label_test b ≡ true → Lawful P m w x
-        there r true e h = record { role = leb-true x.role 2 r; label = ltb-true x.label P.count h; settled = λ other_role. absurd (other_role (eqb-true x.role 0 e)) }
-        there r false e h = let s = settled_parts P Q m w x.label h in record { role = leb-true x.role 2 r; label = s.0; settled = λ _. s.1 }
-
-        tested_by : (b : Bool) → eqb x.role 0 ≡ b → Lawful P m w x → label_test b ≡ true
-        tested_by true e l = lt-ltb x.label P.count l.label
-        tested_by false e l = settled_total P Q m w t u x.label l.label ∙ eq-eqb (at w (at m x.label)) x.label (l.settled (eqb-false x.role 0 e))
-
-        back : Lawful P m w x → lawful_item P Q m w x ≡ true
-        back l = and_from (leb x.role 2) (label_test (eqb x.role 0)) (le-leb x.role 2 l.role) (tested_by (eqb x.role 0) refl l)
+        decides_label : (b : Bool) → eqb x.role 0 ≡ b → Decides (label_test b) ((x.label < P.count) × ((x.role ≢ 0) → Settled m w x.label))
+        decides_label true e =
+            Decides-like (ltb x.label P.count) (λ h. (h, λ other_role. absurd (other_role (eqb-true x.role 0 e)))) (λ k. k.0) (Decides-ltb x.label P.count)
+        decides_label false e = (
+          λ h. let s = settled_parts P Q m w x.label h in (s.0, λ _. s.1),
+          λ k. settled_total P Q m w t u x.label k.0 ∙ eq-eqb (at w (at m x.label)) x.label (k.1 (eqb-false x.role 0 e)),
+        )
 
     items_fits : (xs : List Item) → Fits (items_judged P Q m w xs) (LawfulItems P m w xs) (λ b. ((length xs ≤ 128 → ⊥) × (b ≡ TooMany)) ⊎ ((length xs ≤ 128) × Smallest (length xs) (λ i. Lawful P m w (get_or xs i no_item)) (λ i. Unlawful i (get_or xs i no_item).label) b))
     items_fits xs =

@@ -1,7 +1,8 @@
 -- What the rules say where both maps are total, and what follows of a Lagois connection. Assumes nothing.
-use Rattle.std.proofs.Common.{◌≡◌, ℕ, ◌<◌, Bool, true, false, cond, not, ◌&&◌, ◌||◌, eqb, ltb, List, length, Some, None, Option, refl, ap, ◌∙◌, arith}
+use Rattle.std.proofs.Common.{◌≡◌, ℕ, ◌<◌, Bool, true, false, not, ◌&&◌, ◌||◌, eqb, ltb, List, length, Some, None, Option, refl, ap, ◌∙◌, arith}
 use Rattle.std.proofs.lemmas.Bool.{lt-ltb, ltb-true, and_parts, eqb-true, and_from, cond-true, both_ways}
 use Rattle.std.proofs.lemmas.Bool.Decides.{same_from_decides}
+use Rattle.std.proofs.lemmas.Option.{cond_some}
 use Rattle.refusal.proofs.Deciding.{decides_self}
 use Rattle.order.specs.Orders.{PartialOrder}
 use Rattle.agreement.specs.Maps.{at, image_of, and_then, round_of, related, is_settled, moves}
@@ -37,11 +38,9 @@ module _ (P Q : PartialOrder) (m w : List ℕ) (t : Total P Q m) (u : Total Q P 
 
 -- an image is the entry of a known label
 pub image_some : (P Q : PartialOrder) (m : List ℕ) (a x : ℕ) → image_of P Q m a ≡ Some x → (a < P.count) × (at m a ≡ x)
-image_some P Q m a x e = go (ltb a P.count && (ltb a (length m) && ltb (at m a) Q.count)) refl e
-  where
-    go : (b : Bool) → (ltb a P.count && (ltb a (length m) && ltb (at m a) Q.count)) ≡ b → cond b (Some (at m a)) None ≡ Some x → (a < P.count) × (at m a ≡ x)
-    go true t e = (ltb-true a P.count (and_parts (ltb a P.count) (ltb a (length m) && ltb (at m a) Q.count) t).0, cc)
-    go false t e = let z : ◌≡◌ {A = ℕ} 0 1 = cc in absurd (omega arith)
+image_some P Q m a x e =
+    let found = cond_some (ltb a P.count && (ltb a (length m) && ltb (at m a) Q.count)) (at m a) x e in
+    (ltb-true a P.count (and_parts (ltb a P.count) (ltb a (length m) && ltb (at m a) Q.count) found.0).0, found.1)
 
 -- a settled label is known, and going across and back gives it again
 pub settled_parts : (P Q : PartialOrder) (m w : List ℕ) (a : ℕ) → is_settled P Q m w a ≡ true → (a < P.count) × Settled m w a
