@@ -7,8 +7,8 @@ ghost use Rattle.machine.specs.Operations.{operands};
 ghost use Rattle.machine.specs.Places.{all_written, written};
 ghost use Rattle.machine.specs.Steps.{all_flow, all_working, assignment_write, label_of, compute as compute_step, flows_judged, form_judged, operation_judged, roles_judged, step_judged, step_writes, target_judged};
 
-use crate::items::{check, label_of, suitable};
-use agreement::{Item, Joined, Role};
+use crate::inside::{Inside, check, house_of};
+use agreement::{Joined, Role};
 use machine::{Operation, StepFault, Values, result_of};
 use order::Order;
 use refusal::Side;
@@ -42,83 +42,75 @@ fn well_formed(side: Side, assignments: &[Assignment]) -> Result<(), StepFault>
     operations_known(side, assignments)
 }
 
-// The target and the operands that the operation has are working items.
-fn working(side: Side, items: &[Item], assignment: &Assignment) -> Result<(), StepFault>
-    ensures { result ≡ all_working side items.now (assignment.now.target ∷ operands assignment.now) }
-{
-    let needed = Some(Role::Working);
-    suitable(side, items, assignment.target, needed)?;
-    match Operation::try_from(assignment.operation) {
-        Err(_) | Ok(Operation::Put) => Ok(()),
-        Ok(Operation::Copy) => suitable(side, items, assignment.left, needed),
-        Ok(Operation::Sum | Operation::Difference | Operation::Smaller | Operation::Larger) => {
-            suitable(side, items, assignment.left, needed)?;
-            suitable(side, items, assignment.right, needed)
+impl<'a, O: Order> Inside<'a, O> {
+    // The target and the operands that the operation has are working items.
+    fn working(&self, assignment: &Assignment) -> Result<(), StepFault>
+        ensures { result ≡ all_working self.now.side self.now.items.now (assignment.now.target ∷ operands assignment.now) }
+    {
+        let needed = Some(Role::Working);
+        self.suitable(assignment.target, needed)?;
+        match Operation::try_from(assignment.operation) {
+            Err(_) | Ok(Operation::Put) => Ok(()),
+            Ok(Operation::Copy) => self.suitable(assignment.left, needed),
+            Ok(Operation::Sum | Operation::Difference | Operation::Smaller | Operation::Larger) => {
+                self.suitable(assignment.left, needed)?;
+                self.suitable(assignment.right, needed)
+            }
         }
     }
-}
 
-fn all_working(side: Side, items: &[Item], assignments: &[Assignment]) -> Result<(), StepFault>
-    ensures { result ≡ roles_judged side items.now assignments.now }
-{
-    for (_place, assignment) in assignments.iter().enumerate() {
-        working(side, items, assignment)?;
+    fn all_working(&self, assignments: &[Assignment]) -> Result<(), StepFault>
+        ensures { result ≡ roles_judged self.now.side self.now.items.now assignments.now }
+    {
+        for (_place, assignment) in assignments.iter().enumerate() {
+            self.working(assignment)?;
+        }
+        Ok(())
     }
-    Ok(())
-}
 
-// Whether the operands of an assignment flow to a label.
-fn operands_flow<O: Order>(order: &O, items: &[Item], assignment: &Assignment, label: u64) -> bool
-    ensures { result ≡ all_flow (O.Order.meaning order.now) items.now (operands assignment.now) label }
-{
-    match Operation::try_from(assignment.operation) {
-        Err(_) | Ok(Operation::Put) => true,
-        Ok(Operation::Copy) => order.flows(label_of(items, assignment.left), label),
-        Ok(Operation::Sum | Operation::Difference | Operation::Smaller | Operation::Larger) => {
-            order.flows(label_of(items, assignment.left), label)
-                && order.flows(label_of(items, assignment.right), label)
+    // Whether the operands of an assignment flow to a label.
+    fn operands_flow(&self, assignment: &Assignment, label: u64) -> bool
+        ensures { result ≡ all_flow (O.Order.meaning self.now.order) self.now.items.now (operands assignment.now) label }
+    {
+        match Operation::try_from(assignment.operation) {
+            Err(_) | Ok(Operation::Put) => true,
+            Ok(Operation::Copy) => self.flows(assignment.left, label),
+            Ok(Operation::Sum | Operation::Difference | Operation::Smaller | Operation::Larger) =>
+                self.flows(assignment.left, label) && self.flows(assignment.right, label),
         }
     }
-}
 
-// Every operand of the compute flows to the label of the target at a place.
-fn all_flow_to<O: Order>(
-    order: &O,
-    side: Side,
-    items: &[Item],
-    assignments: &[Assignment],
-    target: usize,
-    label: u64,
-) -> Result<(), StepFault>
-    requires { label ≡ label_of items.now (get_or assignments.now target blank).target }
-    ensures { result ≡ target_judged (O.Order.meaning order.now) side items.now assignments.now target }
-{
-    for (place, assignment) in assignments.iter().enumerate() {
-        if !operands_flow(order, items, assignment, label) {
-            return Err(StepFault::NotAllowed {
-                side: Some(side),
-                target: target as u64,
-                source: place as u64,
-            });
+    // Every operand of the compute flows to the label of the target at a place.
+    fn all_flow_to(
+        &self,
+        assignments: &[Assignment],
+        target: usize,
+        label: u64,
+    ) -> Result<(), StepFault>
+        requires { label ≡ label_of self.now.items.now (get_or assignments.now target blank).target }
+        ensures { result ≡ target_judged (O.Order.meaning self.now.order) self.now.side self.now.items.now assignments.now target }
+    {
+        for (place, assignment) in assignments.iter().enumerate() {
+            if !self.operands_flow(assignment, label) {
+                return Err(StepFault::NotAllowed {
+                    side: Some(self.side),
+                    target: target as u64,
+                    source: place as u64,
+                });
+            }
         }
+        Ok(())
     }
-    Ok(())
-}
 
-// Every operand of the compute flows to every target of it.
-fn flows_allowed<O: Order>(
-    order: &O,
-    side: Side,
-    items: &[Item],
-    assignments: &[Assignment],
-) -> Result<(), StepFault>
-    ensures { result ≡ flows_judged (O.Order.meaning order.now) side items.now assignments.now }
-{
-    for (target, assignment) in assignments.iter().enumerate() {
-        let label = label_of(items, assignment.target);
-        all_flow_to(order, side, items, assignments, target, label)?;
+    // Every operand of the compute flows to every target of it.
+    fn flows_allowed(&self, assignments: &[Assignment]) -> Result<(), StepFault>
+        ensures { result ≡ flows_judged (O.Order.meaning self.now.order) self.now.side self.now.items.now assignments.now }
+    {
+        for (target, assignment) in assignments.iter().enumerate() {
+            self.all_flow_to(assignments, target, self.label_of(assignment.target))?;
+        }
+        Ok(())
     }
-    Ok(())
 }
 
 pub(crate) fn judge_compute<N: Order, F: Order>(
@@ -128,10 +120,10 @@ pub(crate) fn judge_compute<N: Order, F: Order>(
 ) -> Result<(), StepFault>
     ensures { result ≡ step_judged (joined N.Order.meaning F.Order.meaning houses.now) (compute_step side assignments.now) }
 {
-    let items = houses.items(side);
+    let house = house_of(houses, side);
     well_formed(side, assignments)?;
-    all_working(side, items, assignments)?;
-    flows_allowed(&houses.house(side), side, items, assignments)
+    house.all_working(assignments)?;
+    house.flows_allowed(assignments)
 }
 
 fn assign(values: &mut Values, side: Side, assignment: &Assignment)

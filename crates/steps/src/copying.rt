@@ -3,7 +3,7 @@ ghost use Rattle.agreement.specs.Agreements.{joined};
 ghost use Rattle.machine.specs.Places.{place, written};
 ghost use Rattle.machine.specs.Steps.{copy_judged, copy_write, move, step_judged};
 
-use crate::items::{check, label_of, suitable};
+use crate::inside::{check, house_of};
 use agreement::{Joined, Role};
 use machine::{StepFault, Values};
 use order::Order;
@@ -37,12 +37,11 @@ pub(crate) fn judge_copy<N: Order, F: Order>(
     ensures { result ≡ copy_judged ((joined N.Order.meaning F.Order.meaning houses.now).order side) side ((joined N.Order.meaning F.Order.meaning houses.now).items side) roles.to roles.from target source }
 {
     let Roles { to, from } = roles;
-    let house = houses.house(side);
-    let items = houses.items(side);
-    suitable(side, items, target, Some(to))?;
-    suitable(side, items, source, Some(from))?;
+    let house = house_of(houses, side);
+    house.suitable(target, Some(to))?;
+    house.suitable(source, Some(from))?;
     check(
-        house.flows(label_of(items, source), label_of(items, target)),
+        house.flows(source, house.label_of(target)),
         StepFault::NotAllowed {
             side: Some(side),
             target,
@@ -60,13 +59,13 @@ pub(crate) fn judge_move<N: Order, F: Order>(
 ) -> Result<(), StepFault>
     ensures { result ≡ step_judged (joined N.Order.meaning F.Order.meaning houses.now) (move side target source) }
 {
-    let sources = houses.items(side);
-    let targets = houses.items(side.other());
-    suitable(side.other(), targets, target, Some(Role::Import))?;
-    suitable(side, sources, source, Some(Role::Export))?;
+    let from = house_of(houses, side);
+    let to = house_of(houses, side.other());
+    to.suitable(target, Some(Role::Import))?;
+    from.suitable(source, Some(Role::Export))?;
     let map = houses.trip(side).across();
     check(
-        map.allows(label_of(sources, source), label_of(targets, target)),
+        map.allows(from.label_of(source), to.label_of(target)),
         StepFault::NotAllowed {
             side: None,
             target,

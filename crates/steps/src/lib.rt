@@ -4,7 +4,7 @@
 
 mod computing;
 mod copying;
-mod items;
+mod inside;
 mod lines;
 mod scripts;
 mod showing;

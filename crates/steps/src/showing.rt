@@ -4,7 +4,7 @@ ghost use Rattle.machine.specs.Calls.{if_accepted};
 ghost use Rattle.machine.specs.Places.{held, place};
 ghost use Rattle.machine.specs.Steps.{show_judged};
 
-use crate::items::{check, label_of, suitable};
+use crate::inside::{check, house_of};
 use agreement::Joined;
 use machine::{StepFault, Values};
 use order::Order;
@@ -18,15 +18,14 @@ fn judge_show<N: Order, F: Order>(
 ) -> Result<(), StepFault>
     ensures { result ≡ show_judged ((joined N.Order.meaning F.Order.meaning houses.now).order side) side ((joined N.Order.meaning F.Order.meaning houses.now).items side) label item }
 {
-    let house = houses.house(side);
-    let items = houses.items(side);
+    let house = house_of(houses, side);
     check(
-        label < house.count(),
+        label < house.order.count(),
         StepFault::UnknownLabel { side, label },
     )?;
-    suitable(side, items, item, None)?;
+    house.suitable(item, None)?;
     check(
-        house.flows(label_of(items, item), label),
+        house.flows(item, label),
         StepFault::NotAllowed {
             side: Some(side),
             target: item,

@@ -5,7 +5,7 @@ ghost use Rattle.machine.specs.Steps.{compute, label_of, move};
 ghost use Rattle.machine.specs.Types.{for_house, or_top};
 ghost use Rattle.steps.specs.Folds.{Lowers, LowersBoth, LowersBy};
 
-use crate::items::label_of;
+use crate::inside::house_of;
 use agreement::Joined;
 use order::{Bound, Lattice, bound_of_none, bound_of_two};
 use refusal::Side;
@@ -34,7 +34,7 @@ fn lowered_by_item<N: Lattice, F: Lattice>(
 ) -> Lowest
     ensures { LowersBy (joined N.Order.meaning F.Order.meaning houses.now) (λ u. for_house side u (label_of ((joined N.Order.meaning F.Order.meaning houses.now).items side) item ∷ [])) lowest result }
 {
-    let label = label_of(houses.items(side), item);
+    let label = house_of(houses, side).label_of(item);
     match side {
         Side::Near => Lowest {
             near: lowered(houses.near, lowest.near, label),

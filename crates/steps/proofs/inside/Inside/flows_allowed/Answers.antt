@@ -1,5 +1,5 @@
 use Rattle.refusal.proofs.Judging.{left_more, left_break}
-use Rattle.steps.proofs.computing.flows_allowed.Goals as goal
+use Rattle.steps.proofs.inside.Inside.flows_allowed.Goals as goal
 
 pub loop-target-preserved : goal.loop-target-preserved
 loop-target-preserved g c = left_more c.loop-target.invariant c.loop-target-test.true c.in_ok-all_flow_to.ensures
