@@ -1,8 +1,6 @@
 ghost use Rattle.house.specs.Kinds.{table_order};
-ghost use Rattle.order.specs.declared.bound.Bound.TheVariants.{Join, Meet};
-ghost use Rattle.tables.specs.contracts.listed.ListedOrder.TheImpl.{ghosts as listed};
-ghost use Rattle.tables.specs.GradedBounds.{label_at, supremum};
-ghost use Rattle.tables.specs.Lattices.{lattice_of};
+ghost use Rattle.tables.specs.contracts.graded.GradedLattice.TheImpl.Laws.{bounds-law as graded_bounds};
+ghost use Rattle.tables.specs.contracts.listed.ListedLattice.TheImpl.Laws.{bounds-law as listed_bounds};
 ghost use Rattle.house.specs.declared.table.Table.TheVariants.{Listed, Graded};
 
 use order::{Lattice, Order};
@@ -34,14 +32,7 @@ impl Order for Table {
 }
 
 impl Lattice for Table {
-    ghost bounds = { elim [
-      | Listed t ↦ lattice_of (listed.meaning t) t.lattice
-      | Graded t ↦
-          record {
-            joins = λ a b h k. ∣ (label_at Join t.compartments a b, supremum t.levels t.compartments t.limits Join a b h k) ∣₁;
-            meets = λ a b h k. ∣ (label_at Meet t.compartments a b, supremum t.levels t.compartments t.limits Meet a b h k) ∣₁;
-          }
-    ] };
+    ghost bounds = { elim [ Listed t ↦ listed_bounds t | Graded t ↦ graded_bounds t ] };
 
     fn join(&self, a: u64, b: u64) -> Option<u64> {
         match self {
