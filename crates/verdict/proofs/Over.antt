@@ -15,7 +15,8 @@ use Rattle.session.specs.Records.{certify_judged}
 use Rattle.session.specs.declared.record.Session.{Session}
 use Rattle.sheet.specs.declared.parts.Parts.{Parts}
 use Rattle.sheet.specs.declared.parts.Sheet.{Sheet}
-use Rattle.verdict.specs.Opening.{CallRefused, described, HousesStand}
+use Rattle.sheet.specs.Opening.{described, HousesStand}
+use Rattle.verdict.specs.Opening.{CallRefused}
 
 -- the agreement that is handed on is the one that the sheet describes
 pub handed_on : (N F : PartialOrder) (parts : Parts) (a : Agreement) → a.out.now ≡ list_of parts.out → a.back.now ≡ list_of parts.back → a.near_items.now ≡ list_of parts.near_items → a.far_items.now ≡ list_of parts.far_items → agreed N F a ≡ described N F parts

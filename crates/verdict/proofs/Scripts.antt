@@ -14,7 +14,8 @@ use Rattle.machine.specs.declared.stage.Stage.TheVariants.{Certified}
 use Rattle.machine.specs.declared.values.Values.{Values}
 use Rattle.session.specs.Records.{known}
 use Rattle.session.proofs.Gates.{carried}
-use Rattle.verdict.specs.Opening.{CallRefused, described, OpenedBy}
+use Rattle.sheet.specs.Opening.{described}
+use Rattle.verdict.specs.Opening.{CallRefused, OpenedBy}
 use Rattle.verdict.specs.Verdicts.{AcceptedWith}
 use Rattle.verdict.specs.declared.opened.Opened.{Opened}
 

@@ -1,5 +1,5 @@
 -- The verdict on a sheet, and how it is written out.
-use Rattle.std.specs.Prelude.{◌≡◌, ℕ, List, ◌++◌, Some, Ok, Err, codes, decimal, Result, MatchResult}
+use Rattle.std.specs.Prelude.{◌≡◌, ℕ, List, ◌++◌, Ok, Err, codes, decimal, Result, MatchResult}
 use Rattle.refusal.specs.Judging.{accepted}
 use Rattle.refusal.specs.Texts.{refused_text}
 use Rattle.refusal.specs.declared.refused.Refused.{Refused}
@@ -10,19 +10,16 @@ use Rattle.machine.specs.Faults.{call_refused}
 use Rattle.machine.specs.declared.script_type.ScriptType.{ScriptType}
 use Rattle.sheet.specs.Verdicts.{sheet_verdict}
 use Rattle.sheet.specs.declared.parts.Sheet.{Sheet}
-use Rattle.tables.specs.Faults.{refusal_of}
-use Rattle.verdict.specs.Opening.{described, HousesStand, RefusedFor}
+use Rattle.sheet.specs.Opening.{described, HousesStand}
+use Rattle.verdict.specs.Opening.{RefusedFor}
 use Rattle.verdict.specs.declared.fault.JudgeFault.{JudgeFault}
-use Rattle.verdict.specs.declared.fault.JudgeFault.TheVariants.{Sheet as in_sheet, House, Call}
+use Rattle.verdict.specs.declared.fault.JudgeFault.TheVariants.{Sheet as in_sheet, Call}
 use Rattle.verdict.specs.declared.opened.Verdict.{Verdict}
 use Rattle.verdict.specs.declared.opened.Verdict.TheVariants.{Accept, Refuse}
 
 -- what each fault of a sheet is refused with: its line, and number, side, p and q
 abbrev pub judge_refused : JudgeFault → Refused
 judge_refused (in_sheet e) = sheet_verdict e
-judge_refused (House side e) =
-    let r = refusal_of e in
-    record { line = 0; refusal = record { number = r.number; side = Some side; p = r.p; q = r.q } }
 judge_refused (Call e) = call_refused e
 
 -- the sheet stands, and T is the type of its script

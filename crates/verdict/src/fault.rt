@@ -1,18 +1,15 @@
 ghost use Rattle.std.specs.Prelude.{◌≡◌};
+ghost use Rattle.verdict.specs.Verdicts.{judge_refused};
 ghost use Rattle.verdict.specs.declared.fault.JudgeFault.TheVariants.{Sheet as in_sheet, Call as in_call};
 
 use machine::CallFault;
-use refusal::Side;
+use refusal::Refused;
 use sheet::SheetFault;
-use tables::TableFault;
 
-// Why a sheet is refused: in reading it, in making its houses, or in a call of the session.
+// Why a sheet is refused: in reading it and making its houses, or in a call of the session, for its agreement or script.
 #[derive(Clone, Copy)]
 pub enum JudgeFault {
     Sheet(SheetFault),
-    // a house that is no lattice
-    House { side: Side, fault: TableFault },
-    // the agreement or the script
     Call(CallFault),
 }
 
@@ -29,5 +26,17 @@ impl From<CallFault> for JudgeFault {
 
     fn from(fault: CallFault) -> JudgeFault {
         JudgeFault::Call(fault)
+    }
+}
+
+// What the sheet is refused with, and the line that it is in.
+impl From<JudgeFault> for Refused {
+    ghost from_gives = { λ fault r. r ≡ judge_refused fault };
+
+    fn from(fault: JudgeFault) -> Refused {
+        match fault {
+            JudgeFault::Sheet(fault) => Refused::from(fault),
+            JudgeFault::Call(fault) => Refused::from(fault),
+        }
     }
 }

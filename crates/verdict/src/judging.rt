@@ -19,6 +19,6 @@ pub fn judge_sheet(bytes: &[u8]) -> Verdict
 {
     match judge(bytes) {
         Ok(typed) => Verdict::Accept(typed),
-        Err(fault) => Verdict::Refuse(fault.refused()),
+        Err(fault) => Verdict::Refuse(fault.into()),
     }
 }

@@ -5,7 +5,6 @@ mod fault;
 mod judging;
 mod opened;
 mod opening;
-mod refusing;
 mod telling;
 
 pub use fault::JudgeFault;

@@ -12,6 +12,7 @@ pub struct Opened {
 }
 
 // What is said of a sheet: the type of its script, or how it is refused.
+// No Result: it prints itself, and a refusal is what was asked for and no error of the one who asked.
 #[derive(Clone, Copy)]
 pub enum Verdict {
     Accept(ScriptType),

@@ -31,10 +31,7 @@ impl View<'_> {
 
     // The same of both houses.
     fn lines(self, rt: &HostRuntime, before: &str) -> anyhow::Result<bool> {
-        Ok(
-            self.house_lines(rt, before, Side::Near)?
-                && self.house_lines(rt, before, Side::Far)?,
-        )
+        Ok(self.house_lines(rt, before, Side::Near)? && self.house_lines(rt, before, Side::Far)?)
     }
 }
 

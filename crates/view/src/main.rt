@@ -7,6 +7,7 @@ mod words;
 
 use input::read_bounded;
 use listing::{every_view, one_view};
+use refusal::Refused;
 use verdict::{Opened, open_sheet};
 use words::{Question, asked_question};
 
@@ -23,7 +24,7 @@ fn run(rt: &HostRuntime) -> anyhow::Result<()> {
     match open_sheet(bytes.as_slice()) {
         Ok(opened) => answer(rt, asked, &opened),
         Err(fault) => {
-            rt.println(fault.refused())?;
+            rt.println(Refused::from(fault))?;
             Ok(())
         }
     }

@@ -82,10 +82,7 @@ mod tests {
             question_of("north", "1", None),
             Err(WrongCall::UnknownHouse)
         );
-        assert_eq!(rt;
-            question_of("near", "one", None),
-            Err(WrongCall::NoNumber)
-        );
+        assert_eq!(rt; question_of("near", "one", None), Err(WrongCall::NoNumber));
         assert_eq!(rt;
             question_of("near", "1", Some("2")),
             Err(WrongCall::MoreWords)
