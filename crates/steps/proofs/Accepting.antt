@@ -32,12 +32,12 @@ module _ (J : Joint) where
   lines_push : (k : ℕ) (ls : List Line) (l : Line) → lines_judged J k (ls ++ l ∷ []) ≡ (lines_judged J k ls ⨟ judged_at (k + length ls) l)
   lines_push k [] l =
       let here : k ≡ k + 0 = omega arith in
-      then_accepted (judged_at k l) ∙ ap (λ (n : ℕ). judged_at n l) here
+      then_accepted _ ∙ ap (λ (n : ℕ). judged_at n l) here
   lines_push k (x ∷ ls) l =
       let here : suc k + length ls ≡ k + suc (length ls) = omega arith in
       ap (λ (r : Judgement RunFault). judged_at k x ⨟ r)
       (lines_push (suc k) ls l ∙ ap (λ (n : ℕ). lines_judged J (suc k) ls ⨟ judged_at n l) here)
-      ∙ then_assoc (judged_at k x) (lines_judged J (suc k) ls) (judged_at (k + suc (length ls)) l)
+      ∙ then_assoc (judged_at k x) (lines_judged J (suc k) ls) _
 
   given_push : (s : Side) (ls : List Line) (l : Line) → all_given J s (map line_step ls) ++ given J s (line_step l) ≡ all_given J s (map line_step (ls ++ l ∷ []))
   given_push s ls l = flat_map_more (given J s) [] (map line_step ls) (line_step l) ∙ ap (all_given J s) (sym (map_push line_step ls l))
@@ -49,12 +49,12 @@ module _ (J : Joint) where
   -- one line more
   pub judged_push : (ls : List Line) (l : Line) (k : ℕ) (before after : Result Lowest LineFault) → length ls + 1 ≡ k → JudgedSo J ls before → JudgesNext J before k l after → JudgedSo J (ls ++ l ∷ []) after
   judged_push ls l k (Err e) after here judged next =
-      subst (JudgedSo J (ls ++ l ∷ [])) (sym next) (lines_push 1 ls l ∙ then_at (judged_at (1 + length ls) l) judged)
+      subst (JudgedSo J (ls ++ l ∷ [])) (sym next) (lines_push 1 ls l ∙ then_at _ judged)
   judged_push ls l k (Ok b) (Ok c) here judged next = (
-    lines_push 1 ls l ∙ then_at (judged_at (1 + length ls) l) judged.0 ∙ ap (under (at_line (1 + length ls))) next.0,
+    lines_push 1 ls l ∙ then_at _ judged.0 ∙ ap (under (at_line (1 + length ls))) next.0,
     (lowest_push Near ls l b.near c.near judged.1.0 next.1.0, lowest_push Far ls l b.far c.far judged.1.1 next.1.1),
   )
   judged_push ls l k (Ok b) (Err e) here judged next =
       let line : 1 + length ls ≡ e.line = omega (arith, next.1) in
-      lines_push 1 ls l ∙ then_at (judged_at (1 + length ls) l) judged.0 ∙ ap (under (at_line (1 + length ls))) next.0
+      lines_push 1 ls l ∙ then_at _ judged.0 ∙ ap (under (at_line (1 + length ls))) next.0
       ∙ ap (λ (n : ℕ). Err (at_line n e.fault)) line

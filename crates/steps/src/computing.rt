@@ -14,6 +14,8 @@ use order::Order;
 use refusal::Side;
 use script::Assignment;
 
+// Loops over assignments go over the lent list with its places, in the checks and in the execution.
+
 // The most assignments of a compute.
 const MOST_ASSIGNMENTS: usize = 8;
 

@@ -35,6 +35,7 @@ fn lowered_by_item<N: Lattice, F: Lattice>(
     ensures { LowersBy (joined N.Order.meaning F.Order.meaning houses.now) (λ u. for_house side u (label_of ((joined N.Order.meaning F.Order.meaning houses.now).items side) item ∷ [])) lowest result }
 {
     let label = house_of(houses, side).label_of(item);
+    // By a match, since one bound of the two is set: to read it and to set it by its side would be a match each.
     match side {
         Side::Near => Lowest {
             near: lowered(houses.near, lowest.near, label),
