@@ -26,7 +26,7 @@ module _ (n : ℕ) (rows : List ℕ) where
   unfolding listed_flow
   flow_to_unknown a b h = and_left (nat_lt a n && nat_lt b n) (slice_index rows a / 2 ^ b % 2 == 1) (and_right (nat_lt a n) (nat_lt b n) (le-ltb b n h))
 
-  -- a bit_at that the code reads is the flow
+  -- a bit that the code reads is the flow
   pub read_flow : (a b : ℕ) → a < n → b < n → (bit_and (slice_index rows a / 2 ^ b) 1 == 1) ≡ listed_flow n rows a b
   read_flow a b h k = ap (λ (x : ℕ). nat_eq x 1) (and_mask (slice_index rows a / 2 ^ b) 1) ∙ sym (flow_at a b h k)
 
