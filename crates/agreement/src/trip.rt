@@ -85,7 +85,7 @@ impl<'a, P: Order + Copy, Q: Order + Copy> RoundTrip<'a, P, Q> {
         map.image(again) == map.image(label)
     }
 
-    // Going across, back and across again is going across.
+    // Going across, back and across again is going across. One text for this and `rising` is no plainer: it takes two closures, each with a contract.
     #[tactic(auto, using(refusal::proofs::Judging::judging))]
     pub fn stable(&self) -> Result<(), Broken>
         ensures { result ≡ stable_judged (P.Order.meaning self.now.from) (Q.Order.meaning self.now.to) self.now.out.now self.now.back.now }

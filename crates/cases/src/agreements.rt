@@ -14,6 +14,7 @@ struct Case {
     refused: Option<Refusal>,
 }
 
+// An item holds the plain number of its role, and what a static holds is made without calls.
 const WORKING: u64 = Role::Working as u64;
 
 const IMPORT: u64 = Role::Import as u64;
