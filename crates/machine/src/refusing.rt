@@ -4,6 +4,7 @@ ghost use Rattle.machine.specs.Faults.{step_refusal, line_refused, run_refused, 
 use crate::fault::{CallFault, LineFault, RunFault, StepFault};
 use refusal::{Refusal, Refused};
 
+// The rules number the refusals.
 impl From<StepFault> for Refusal {
     ghost from_gives = { λ fault r. r ≡ step_refusal fault };
 

@@ -6,7 +6,7 @@ use refusal::Side;
 // The most items that a house has.
 const MOST_ITEMS: usize = 128;
 
-// What the items of both houses hold, by number.
+// What the items of both houses hold, by number: two tables, as the record of a session keeps them.
 #[derive(Clone, Copy)]
 pub struct Values {
     pub near: [u64; MOST_ITEMS],

@@ -9,7 +9,7 @@ use machine::{StepFault, Values};
 use order::Order;
 use refusal::Side;
 
-// The roles of the items of a copy inside a house.
+// The roles of the items of a copy inside a house: a fetch and a store differ in nothing else.
 #[derive(Clone, Copy)]
 pub(crate) struct Roles {
     pub to: Role,

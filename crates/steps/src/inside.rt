@@ -71,7 +71,7 @@ pub(crate) fn check(holds: bool, fault: StepFault) -> Result<(), StepFault>
     if holds { Ok(()) } else { Err(fault) }
 }
 
-// Whether a role is the one that is needed.
+// Whether a role, which may be handed in as any number, is the one that is needed.
 fn serves(needed: Option<Role>, role: u64) -> bool
     ensures { result ≡ serves needed role }
 {

@@ -56,6 +56,7 @@ fn judge_lines<N: Lattice, F: Lattice>(
     let mut reader = Reader::new(bytes, at);
     let count = line_count(&mut reader)?;
     let mut judged = Ok(none_judged(houses));
+    // The lines stand in no list: each is read where the one before ends, and told its number.
     for place in 0..count {
         let line = numbered_line(&mut reader, place + 1)?;
         judged = judge_next(houses, judged, place + 1, &line);
