@@ -492,6 +492,33 @@ fn settled_labels(rt: HostRuntime) -> Result<(), Fail> {
     Ok(())
 }
 
+// Near items with the labels 0, 2 and 1, and far ones with 1 and 0.
+static NEAR_ITEMS: [Item; 3] = [
+    Item {
+        role: WORKING,
+        label: 0,
+    },
+    Item {
+        role: WORKING,
+        label: 2,
+    },
+    Item {
+        role: WORKING,
+        label: 1,
+    },
+];
+
+static FAR_ITEMS: [Item; 2] = [
+    Item {
+        role: EXPORT,
+        label: 1,
+    },
+    Item {
+        role: IMPORT,
+        label: 0,
+    },
+];
+
 fn connected<'a>(near: &'a Graded, far: &'a Graded) -> Joined<'a, Graded, Graded> {
     Joined {
         near,
@@ -499,8 +526,8 @@ fn connected<'a>(near: &'a Graded, far: &'a Graded) -> Joined<'a, Graded, Graded
         agreement: Agreement {
             out: &[0, 1, 1],
             back: &[0, 2],
-            near_items: &[],
-            far_items: &[],
+            near_items: &NEAR_ITEMS,
+            far_items: &FAR_ITEMS,
         },
     }
 }
@@ -518,6 +545,27 @@ fn views(rt: HostRuntime) -> Result<(), Fail> {
     assert_eq!(rt; joined.view(Side::Far, 1), high);
     assert_eq!(rt; joined.view(Side::Near, 3), None);
     assert_eq!(rt; joined.view(Side::Far, 2), None);
+    Ok(())
+}
+
+#[test]
+fn items_in_views(rt: HostRuntime) -> Result<(), Fail> {
+    let near = chain(3)?;
+    let far = chain(2)?;
+    let joined = connected(&near, &far);
+    let Some(own) = joined.items_in_view(rt.alloc(), Side::Near, 0, Side::Near)? else {
+        return Err(Fail::new("near label 0 has a view"));
+    };
+    assert!(rt; own.as_slice() == [0].as_slice());
+    let Some(across) = joined.items_in_view(rt.alloc(), Side::Near, 1, Side::Far)? else {
+        return Err(Fail::new("near label 1 has a view"));
+    };
+    assert!(rt; across.as_slice() == [0, 1].as_slice());
+    assert!(rt;
+        joined
+            .items_in_view(rt.alloc(), Side::Far, 2, Side::Near)?
+            .is_none()
+    );
     Ok(())
 }
 
