@@ -5,6 +5,7 @@ use refusal::Refused;
 use sheet::open_sheet;
 use std::alloc::{AllocError, Global};
 
+// By hand, since the crate hex refuses a line for a sign that spells nothing here.
 fn digit(byte: u8) -> Option<u8> {
     match byte {
         b'0'..=b'9' => Some(byte - b'0'),
@@ -13,22 +14,16 @@ fn digit(byte: u8) -> Option<u8> {
     }
 }
 
-fn pair(high: u8, low: u8) -> Option<u8> {
-    Some(digit(high)? << 4 | digit(low)?)
+fn pair(two: &[u8]) -> Option<u8> {
+    let [high, low] = two else {
+        return None;
+    };
+    Some(digit(*high)? << 4 | digit(*low)?)
 }
 
 // The bytes that a line spells; what is no digit, as the dash of an empty sheet, spells nothing.
 fn spelled(heap: Global, line: &[u8]) -> Result<Vec<u8>, AllocError> {
-    let mut bytes = Vec::new(heap);
-    for two in line.chunks(2) {
-        let [high, low] = two else {
-            continue;
-        };
-        if let Some(byte) = pair(*high, *low) {
-            bytes.push(byte)?;
-        }
-    }
-    Ok(bytes)
+    line.chunks(2).filter_map(pair).collect(heap)
 }
 
 fn verdict(rt: &HostRuntime, bytes: &[u8]) -> anyhow::Result<()> {

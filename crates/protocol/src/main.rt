@@ -19,10 +19,7 @@ const AGREEMENT: Agreement<'static> = Agreement {
 };
 
 fn chain() -> anyhow::Result<Graded> {
-    match Graded::new(2, 0) {
-        Ok(chain) => Ok(chain),
-        Err(_) => Err(anyhow!("no chain")),
-    }
+    Graded::new(2, 0).map_err(|_| anyhow!("no chain"))
 }
 
 // A new session, and the pass that says that nothing is agreed yet.

@@ -7,6 +7,7 @@ use script::Assignment;
 use session::{CertifiedPass, OpenPass, Returned, Session};
 use std::process::Abort;
 use std::test::Fail;
+use tables::Graded;
 
 #[derive(Clone, Copy)]
 pub enum Call {
@@ -42,25 +43,20 @@ pub fn refuse(fault: CallFault) -> Answer {
     )
 }
 
-fn done(res: Result<(), CallFault>) -> Answer {
+// What a call is answered with, told so where it is accepted.
+fn answer_of<T, F: FnOnce(T) -> Answer>(res: Result<T, CallFault>, told: F) -> Answer {
     match res {
-        Ok(()) => Answer::Done,
+        Ok(value) => told(value),
         Err(fault) => refuse(fault),
     }
 }
 
-fn value(res: Result<u64, CallFault>) -> Answer {
-    match res {
-        Ok(value) => Answer::Value(value),
-        Err(fault) => refuse(fault),
-    }
+fn done(res: Result<(), CallFault>) -> Answer {
+    answer_of(res, |()| Answer::Done)
 }
 
 fn script_type(res: Result<ScriptType, CallFault>) -> Answer {
-    match res {
-        Ok(typed) => Answer::Type(typed.near, typed.far),
-        Err(fault) => refuse(fault),
-    }
+    answer_of(res, |typed| Answer::Type(typed.near, typed.far))
 }
 
 // Makes the call.
@@ -76,9 +72,17 @@ pub fn make_call<N: Lattice, F: Lattice>(
         Call::Outward(target, source) => done(session.outward(pass, target, source)),
         Call::Inward(target, source) => done(session.inward(pass, target, source)),
         Call::Run(bytes, at) => script_type(session.run(pass, bytes, at)),
-        Call::Show(side, label, item) => value(session.show(pass, side, label, item)),
+        Call::Show(side, label, item) => answer_of(
+            session.show(pass, side, label, item),
+            Answer::Value,
+        ),
         Call::Judge(bytes, at) => script_type(session.judge(bytes, at)),
     }
+}
+
+// Two levels and one compartment are a diamond, two levels and none a chain.
+pub fn graded(compartments: u64) -> Result<Graded, Fail> {
+    Graded::new(2, compartments).map_err(|_| Fail::new("within the limits"))
 }
 
 // An agreement, and the values that a session opens with.
@@ -95,10 +99,10 @@ pub fn certified<N: Lattice + Drop, F: Lattice + Drop>(
     agreement: &Agreement<'_>,
 ) -> Result<(Session<N, F>, CertifiedPass), Fail> {
     let (mut session, draft) = Session::new(near, far);
-    match session.certify(draft, agreement) {
-        Ok(pass) => Ok((session, pass)),
-        Err(_) => Err(Fail::new("the agreement keeps the rules")),
-    }
+    let pass = session
+        .certify(draft, agreement)
+        .map_err(|_| Fail::new("the agreement keeps the rules"))?;
+    Ok((session, pass))
 }
 
 pub fn opened<N: Lattice + Drop, F: Lattice + Drop>(
@@ -107,10 +111,10 @@ pub fn opened<N: Lattice + Drop, F: Lattice + Drop>(
     setting: &Setting,
 ) -> Result<(Session<N, F>, OpenPass), Fail> {
     let (mut session, pass) = certified(near, far, &setting.agreement)?;
-    match session.open(pass, setting.near, setting.far) {
-        Ok(pass) => Ok((session, pass)),
-        Err(_) => Err(Fail::new("as many values as items")),
-    }
+    let pass = session
+        .open(pass, setting.near, setting.far)
+        .map_err(|_| Fail::new("as many values as items"))?;
+    Ok((session, pass))
 }
 
 // Opens a session between two lattices, makes the calls in order, and looks at each answer.

@@ -1,6 +1,6 @@
 // The same calls have the same answers at every kind of lattice, and at layers piled on them, on either side.
 use crate::calls::{CALLS, DIAMOND_AND_CHAIN};
-use crate::driver::{Answer, Call, Setting, play};
+use crate::driver::{Answer, Call, Setting, graded, play};
 use agreement::{Agreement, Item};
 use order::{Lattice, Reversed};
 use refusal::Side;
@@ -21,14 +21,6 @@ fn listed(rt: &impl Abort, rows: &[u32]) -> Listed {
     let mut listed = Listed::new();
     assert!(rt; listed.write(rows).is_ok());
     listed
-}
-
-// Two levels and one compartment are the diamond, two levels and none the chain.
-fn graded(compartments: u64) -> Result<Graded, Fail> {
-    match Graded::new(2, compartments) {
-        Ok(graded) => Ok(graded),
-        Err(_) => Err(Fail::new("within the limits")),
-    }
 }
 
 fn reversed(rt: &impl Abort, rows: &[u32]) -> Reversed<Listed> {

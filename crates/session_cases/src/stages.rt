@@ -1,5 +1,5 @@
 // Calls at the wrong stage, with passes of other sessions, and openings.
-use crate::driver::{Answer, Call, Setting, certified, make_call, opened, returned};
+use crate::driver::{Answer, Call, Setting, certified, graded, make_call, opened, returned};
 use agreement::{Agreement, Item};
 use order::Lattice;
 use refusal::Side;
@@ -40,25 +40,18 @@ static FOR_OPEN_SESSIONS: [Call; 7] = [
     Call::Show(Side::Far, 9, 9),
 ];
 
-fn chain() -> Result<Graded, Fail> {
-    match Graded::new(2, 0) {
-        Ok(chain) => Ok(chain),
-        Err(_) => Err(Fail::new("within the limits")),
-    }
-}
-
 fn draft_pair() -> Result<(Session<Graded, Graded>, DraftPass), Fail> {
-    let chain = chain()?;
+    let chain = graded(0)?;
     Ok(Session::new(chain, chain))
 }
 
 fn certified_pair() -> Result<(Session<Graded, Graded>, CertifiedPass), Fail> {
-    let chain = chain()?;
+    let chain = graded(0)?;
     certified(chain, chain, &PAIR.agreement)
 }
 
 fn open_pair() -> Result<(Session<Graded, Graded>, OpenPass), Fail> {
-    let chain = chain()?;
+    let chain = graded(0)?;
     opened(chain, chain, &PAIR)
 }
 
