@@ -2,7 +2,7 @@ ghost use Rattle.std.specs.Prelude.{◌≡◌, min, length, take};
 ghost use Rattle.fixed.specs.Lists.{filled, list_of};
 
 // A list of at most N elements: the first `count` places of a table. Where a list is made here, blanks stand behind it.
-// A count beyond the table stands for all of it.
+// A count beyond the table stands for all of it. A table of its own, since sheets and records are copied and ArrayVec is not.
 #[derive(Clone, Copy)]
 pub struct FixedList<T, const N: usize> {
     pub count: u64,

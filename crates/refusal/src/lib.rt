@@ -60,6 +60,7 @@ impl FromStr for Side {
 
 // A refusal as the rules number it. It has no side where it is about neither house, or about one that stands alone.
 // The first number is wide, since it may be a bit of bytes of any length.
+// An enum in place of the number is no plainer: each number would stand beside its name once more, and the faults are the kinds.
 #[derive(Clone, Copy, PartialEq, Eq, Debug)]
 pub struct Refusal {
     pub number: u8,

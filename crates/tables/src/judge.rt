@@ -63,7 +63,7 @@ impl Rows<'_> {
         Ok(())
     }
 
-    // Flow carries on.
+    // Flow carries on. One text for this law and the one before takes a closure with a contract, which is no plainer.
     fn judge_transitive(&self) -> Result<(), TableFault>
         ensures { result ≡ each_from (transitive_from (length self.now.rows.now) (rows_flow self.now.rows.now)) 0 (length self.now.rows.now) }
     {
