@@ -1,15 +1,13 @@
 -- The steps of opening a sheet. Assumes nothing.
-use Rattle.std.proofs.Common.{◌≡◌, ℕ, List, IsErrAnd, Result, sym, subst, inl, inr}
+use Rattle.std.proofs.Common.{◌≡◌, ℕ, List, IsErrAnd, Result, sym, subst}
 use Rattle.fixed.specs.Lists.{list_of}
 use Rattle.refusal.proofs.Judging.{break_is}
-use Rattle.refusal.specs.declared.Side.TheVariants.{Near, Far}
 use Rattle.order.specs.Orders.{PartialOrder}
 use Rattle.agreement.specs.Agreements.{agreed, joint}
 use Rattle.agreement.specs.declared.certification.Agreement.{Agreement}
 use Rattle.house.specs.declared.table.Table.{Table}
-use Rattle.sheet.specs.Opening.{described, HousesJudgedSo, JudgedSo, UnhousedFor, RefusedFor, Opens}
+use Rattle.sheet.specs.Opening.{described, RefusedFor, Opens}
 use Rattle.sheet.specs.declared.fault.SheetFault.{SheetFault}
-use Rattle.sheet.specs.declared.fault.SheetFault.TheVariants.{TooLong, Field, Script, Trailing, House, Agreement as in_agreement}
 use Rattle.sheet.specs.declared.parts.Opened.{Opened}
 use Rattle.sheet.specs.declared.parts.Parts.{Parts}
 
@@ -20,17 +18,3 @@ stops meaning bytes r e by why = subst (λ (x : Result Opened SheetFault). Opens
 -- the agreement that is handed on is the one that the sheet describes
 pub handed_on : (N F : PartialOrder) (parts : Parts) (a : Agreement) → a.out.now ≡ list_of parts.out → a.back.now ≡ list_of parts.back → a.near_items.now ≡ list_of parts.near_items → a.far_items.now ≡ list_of parts.far_items → agreed N F a ≡ described N F parts
 handed_on N F parts a p q r s = λ i. joint N F (p i) (q i) (r i) (s i)
-
--- why no houses were made is why the sheet is not opened
-judged_so : (parts : Parts) (e : SheetFault) → HousesJudgedSo parts e → JudgedSo parts e
-judged_so parts TooLong why = why
-judged_so parts (Field e) why = why
-judged_so parts (Script e) why = why
-judged_so parts (Trailing at) why = why
-judged_so parts (House Near f) why = why
-judged_so parts (House Far f) why = why
-judged_so parts (in_agreement f) why = absurd why
-
-pub unhoused : (bytes : List ℕ) (e : SheetFault) → UnhousedFor bytes e → RefusedFor bytes e
-unhoused bytes e (inl unread) = inl unread
-unhoused bytes e (inr (s, was, why)) = inr (s, was, judged_so s.parts e why)

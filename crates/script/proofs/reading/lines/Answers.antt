@@ -1,8 +1,7 @@
 use Rattle.std.proofs.Common.{ℕ, suc, ◌+◌, sym, ap, ◌∙◌, add-one}
-use Rattle.std.proofs.lemmas.Result.{err_from_is_err_and}
 use Rattle.bits.specs.Bits.{all_bits}
 use Rattle.format.specs.Formats.{read, many, under}
-use Rattle.format.proofs.Loops.{passing_more, passing_stop, passing_end}
+use Rattle.format.proofs.Loops.{passing_more, passing_end}
 use Rattle.script.specs.Scripts.{line, on_line}
 use Rattle.script.proofs.Passing.{ended}
 use Rattle.script.proofs.reading.lines.Goals as goal
@@ -18,20 +17,6 @@ loop-place-preserved c =
           (ap (λ (k : ℕ). under (on_line k) (read line (all_bits c.args.reader.now.bytes.now) p)) (sym (add-one c.loop-place.place))
           ∙ ap (λ b. under (on_line (c.loop-place.place + 1)) (read line (all_bits b.now) p)) (sym same) ∙ got.reads.value) c.loop-place.invariant.1,
     )
-
-pub returns-in_err-numbered_line : goal.returns-in_err-numbered_line
-returns-in_err-numbered_line c =
-    let p = c.loop-place.reader.at in
-    let same = c.loop-place.invariant.0 in
-    let got = c.in_err-numbered_line.ensures in
-    let stop =
-    passing_stop (λ i e. on_line (suc i) e) (read line (all_bits c.args.reader.now.bytes.now)) c.args.count c.args.reader.now.at c.loop-place.place p
-    c.in_err-numbered_line.field-0.0 c.loop-place-test.true
-    (ap (λ (k : ℕ). under (on_line k) (read line (all_bits c.args.reader.now.bytes.now) p)) (sym (add-one c.loop-place.place))
-    ∙ ap (λ b. under (on_line (c.loop-place.place + 1)) (read line (all_bits b.now) p)) (sym same) ∙ got.reads.value) c.loop-place.invariant.1
-    in
-    let out = err_from_is_err_and c.from_residual.result c.from_residual.ensures.1 in
-    record { value = rw (out.1, out.2) stop; bytes = got.reads.bytes ∙ same }
 
 pub returns : goal.returns
 returns c =
