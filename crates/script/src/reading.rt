@@ -147,8 +147,8 @@ fn lines(reader: &mut Reader<'_>, count: u64) -> Result<(), ScriptFault>
     requires { count ≤ 255 }
     ensures { PassesLines count reader.old result reader.new }
 {
-    for place in 0..count {
-        numbered_line(reader, place + 1)?;
+    for number in 1..=count {
+        numbered_line(reader, number)?;
     }
     Ok(())
 }
