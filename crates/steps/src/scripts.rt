@@ -56,10 +56,9 @@ fn judge_lines<N: Lattice, F: Lattice>(
     let mut reader = Reader::new(bytes, at);
     let count = line_count(&mut reader)?;
     let mut judged = Ok(none_judged(houses));
-    // The lines stand in no list: each is read where the one before ends, and told its number.
-    for place in 0..count {
-        let line = numbered_line(&mut reader, place + 1)?;
-        judged = judge_next(houses, judged, place + 1, &line);
+    for number in 1..=count {
+        let line = numbered_line(&mut reader, number)?;
+        judged = judge_next(houses, judged, number, &line);
     }
     Ok(judged)
 }
@@ -88,8 +87,8 @@ fn do_script(values: &mut Values, bytes: &[u8], at: u128)
     let Ok(count) = line_count(&mut reader) else {
         return;
     };
-    for passed in 0..count {
-        let Ok(line) = numbered_line(&mut reader, passed + 1) else {
+    for number in 1..=count {
+        let Ok(line) = numbered_line(&mut reader, number) else {
             return;
         };
         do_line(values, &line);

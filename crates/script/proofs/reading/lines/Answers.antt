@@ -1,10 +1,8 @@
 use Rattle.std.proofs.Common.{◌≡◌, ℕ, suc, ◌+◌, ◌-◌, sym, ap, ◌∙◌, subst, arith}
-use Rattle.std.proofs.lemmas.Result.{err_from_is_err_and}
 use Rattle.bits.specs.Bits.{all_bits}
-use Rattle.format.specs.Formats.{read, many, under}
-use Rattle.format.proofs.Loops.{Passing, passing_more, passing_stop, passing_end}
+use Rattle.format.specs.Formats.{read, under}
+use Rattle.format.proofs.Loops.{Passing, passing_more}
 use Rattle.script.specs.Scripts.{line, on_line}
-use Rattle.script.proofs.Passing.{ended}
 use Rattle.script.proofs.reading.lines.Goals as goal
 
 pub loop-number-preserved : goal.loop-number-preserved

@@ -5,7 +5,7 @@ use Rattle.steps.specs.Folds.{JudgedSo}
 use Rattle.steps.proofs.Rereading.{LinesRead}
 use Rattle.steps.proofs.scripts.judge_lines.Given as goal
 
-abbrev pub invariant-loop-place : goal.invariant-loop-place
-invariant-loop-place g l =
+abbrev pub invariant-loop-number : goal.invariant-loop-number
+invariant-loop-number g l =
     let J = joined g.N.Order.meaning g.F.Order.meaning l.houses in
-    (ls : List Line) × LinesRead l.count l.initial.reader l.place l.reader ls × JudgedSo J ls l.judged
+    (ls : List Line) × LinesRead l.count l.initial.reader l.number l.reader ls × JudgedSo J ls l.judged
