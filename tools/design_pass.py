@@ -112,7 +112,7 @@ def twin_tables(root):
 
 def calls_in(fact):
     """The terms of a fact that put an order, a joint or a record together, with their parentheses."""
-    for start in re.finditer(r"\((known_of|agreed|toward|listed_flow) ", fact):
+    for start in re.finditer(r"\((known_of|known|agreed|joined|toward|listed_flow|rows_flow) ", fact):
         depth = 0
         for at in range(start.start(), len(fact)):
             depth += {"(": 1, ")": -1}.get(fact[at], 0)

@@ -38,15 +38,23 @@ impl From<Role> for u64 {
     }
 }
 
+impl Role {
+    pub fn word(self) -> &'static str
+        ensures { result.now ≡ role_word self }
+    {
+        match self {
+            Role::Working => "working",
+            Role::Import => "import",
+            Role::Export => "export",
+        }
+    }
+}
+
 impl fmt::Display for Role {
     ghost output = { λ role. Some (role_word role) };
 
     fn fmt<W: fmt::Write>(&self, f: &mut fmt::Formatter<W>) -> fmt::Result {
-        f.write_str(match self {
-            Role::Working => "working",
-            Role::Import => "import",
-            Role::Export => "export",
-        })
+        f.write_str(self.word())
     }
 }
 

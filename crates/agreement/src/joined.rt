@@ -5,7 +5,7 @@ use either::{Either, Left, Right};
 use order::Order;
 use refusal::Side;
 
-// Two lent orders and the agreement that joins them.
+// Two lent orders and the agreement that joins them. No Model is plainer: its value would be a joint, and functions have no code.
 #[derive_where(Clone, Copy)]
 pub struct Joined<'a, N, F> {
     pub near: &'a N,

@@ -71,7 +71,7 @@ impl<'a, P: Order, Q: Order> LabelMap<'a, P, Q> {
         }
     }
 
-    // If a flows to b, the image of a flows to the image of b.
+    // If a flows to b, the image of a flows to the image of b. Pairs by nested loops, left by a label: a rule of the project.
     #[tactic(auto, using(refusal::proofs::Judging::judging))]
     pub fn monotone(&self) -> Result<(), Broken>
         ensures { result ≡ monotone_judged (P.Order.meaning self.now.from) (Q.Order.meaning self.now.to) self.now.images.now }

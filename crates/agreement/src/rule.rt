@@ -1,4 +1,4 @@
-// What certification asks of each side.
+// What certification asks of each side. An enum, since the specification lists the rules in their order by it.
 #[derive(Clone, Copy)]
 pub(crate) enum Rule {
     Totality,

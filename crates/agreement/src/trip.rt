@@ -78,6 +78,7 @@ impl<'a, P: Order + Copy, Q: Order + Copy> RoundTrip<'a, P, Q> {
     fn stays_at(&self, label: u64) -> bool
         ensures { result ≡ stays (P.Order.meaning self.now.from) (Q.Order.meaning self.now.to) self.now.out.now self.now.back.now label }
     {
+        // No `is_some_and`: tried, and the proof over a closure that asks for two images did not close.
         let Some(again) = self.again(label) else {
             return false;
         };

@@ -6,7 +6,7 @@ ghost use Rattle.house.specs.declared.table.Table.TheVariants.{Listed, Graded};
 use order::{Lattice, Order};
 use tables::{Graded, Listed};
 
-// The lattice of a house, whatever its kind. A match in each method stays: a new kind is one more arm, and Either has two.
+// The lattice of a house, whatever its kind. Either is no plainer: Left and Right would stand for the kinds.
 #[derive(Clone, Copy)]
 pub enum Table {
     Listed(Listed),

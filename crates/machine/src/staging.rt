@@ -3,16 +3,13 @@ ghost use Rattle.machine.specs.Calls.{may_judge, stage_judged};
 
 use crate::fault::CallFault;
 use crate::stage::Stage;
+use refusal::check;
 
 // Whether a record at one stage may take a call that needs another.
 pub fn at_stage(stage: Stage, needed: Stage) -> Result<(), CallFault>
     ensures { result ≡ stage_judged stage needed }
 {
-    if stage == needed {
-        Ok(())
-    } else {
-        Err(CallFault::WrongStage { stage, needed })
-    }
+    check(stage == needed, CallFault::WrongStage { stage, needed })
 }
 
 // Whether scripts may be judged: by a certified or open record.

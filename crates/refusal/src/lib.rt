@@ -4,8 +4,10 @@
 ghost use Rattle.std.specs.Prelude.{◌≡◌, Some};
 ghost use Rattle.refusal.specs.Sides.{NamedBy, other, side_number, side_word};
 
+mod checking;
 mod refused;
 
+pub use checking::check;
 pub use refused::Refused;
 use std::fmt;
 use std::str::FromStr;
@@ -18,6 +20,15 @@ pub enum Side {
 }
 
 impl Side {
+    pub fn word(self) -> &'static str
+        ensures { result.now ≡ side_word self }
+    {
+        match self {
+            Side::Near => "near",
+            Side::Far => "far",
+        }
+    }
+
     // The other side.
     pub fn other(self) -> Side
         ensures { result ≡ other self }
@@ -33,10 +44,7 @@ impl fmt::Display for Side {
     ghost output = { λ v. Some (side_word v) };
 
     fn fmt<W: fmt::Write>(&self, f: &mut fmt::Formatter<W>) -> fmt::Result {
-        f.write_str(match self {
-            Side::Near => "near",
-            Side::Far => "far",
-        })
+        f.write_str(self.word())
     }
 }
 

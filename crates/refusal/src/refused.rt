@@ -4,7 +4,7 @@ ghost use Rattle.refusal.specs.Texts.{refused_text};
 use crate::Refusal;
 use std::fmt;
 
-// A refusal with the line of a script that it is in, from 1, or 0 outside of the lines.
+// A refusal with the line of a script that it is in, from 1, or 0 outside of the lines: a number, as it is printed.
 #[derive(Clone, Copy, PartialEq, Eq, Debug)]
 pub struct Refused {
     pub line: u64,

@@ -40,7 +40,7 @@ impl<N: Lattice, F: Lattice> Session<N, F> {
         Ok(())
     }
 
-    // Copies an import to a working item of its house. One call for this and `store` would ask for the kind of copy.
+    // Copies an import to a working item of its house. No plainer as one call with `store`, which would take the kind of copy.
     pub fn fetch(
         &mut self,
         pass: &OpenPass,

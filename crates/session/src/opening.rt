@@ -13,7 +13,7 @@ use agreement::{Agreement, Item, Joined};
 use fixed::FixedList;
 use machine::{CallFault, Stage, Values, at_stage};
 use order::Lattice;
-use refusal::Side;
+use refusal::{Side, check};
 
 impl<N: Lattice, F: Lattice> Session<N, F> {
     // A session between two houses, with nothing agreed.
@@ -126,12 +126,11 @@ fn of_length(side: Side, items: &[Item], values: &[u64]) -> Result<(), CallFault
     ensures { result ≡ check (length values.now == length items.now) (CallFault.Values side (length items.now)) }
 {
     let needed = items.len();
-    if values.len() == needed {
-        Ok(())
-    } else {
-        Err(CallFault::Values {
+    check(
+        values.len() == needed,
+        CallFault::Values {
             side,
             needed: needed as u64,
-        })
-    }
+        },
+    )
 }

@@ -28,8 +28,7 @@ pub(crate) fn exchanged<P: Drop, Q: Drop>(
 ) -> Result<Q, Returned<P>>
     ensures { Hands judged result }
 {
-    match judged {
-        Ok(()) => Ok(next),
-        Err(fault) => Err(Returned { pass: taken, fault }),
-    }
+    judged
+        .map(|()| next)
+        .map_err(|fault| Returned { pass: taken, fault })
 }

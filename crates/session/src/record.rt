@@ -55,7 +55,7 @@ pub struct Table {
     pub(crate) values: Values,
 }
 
-// A session between two houses, given by their lattices.
+// A session between two houses, given by their lattices. No Model, since what is known of it is a joint, which has no code.
 #[derive(Drop)]
 pub struct Session<N, F> {
     pub(crate) near: N,

@@ -1,15 +1,16 @@
 // A table of calls in order, with the answer to each. The near labels are a diamond, with 0 below 1 and 2, and 3 above them;
 // the far labels are 0 below 1. Going out, all near labels but 0 are far label 1, which comes back as 3.
 use crate::driver::{Answer, Call, Setting};
-use agreement::{Agreement, Item, Role};
+use agreement::{Agreement, Item};
 use refusal::Side;
 use script::Assignment;
 
-const WORKING: u64 = Role::Working as u64;
+// The roles by their numbers, as the rules write them: what a test expects is not taken from the code.
+const WORKING: u64 = 0;
 
-const IMPORT: u64 = Role::Import as u64;
+const IMPORT: u64 = 1;
 
-const EXPORT: u64 = Role::Export as u64;
+const EXPORT: u64 = 2;
 
 pub static DIAMOND_AND_CHAIN: Setting = Setting {
     agreement: Agreement {

@@ -7,14 +7,14 @@ ghost use Rattle.machine.specs.Operations.{operands};
 ghost use Rattle.machine.specs.Places.{all_written, written};
 ghost use Rattle.machine.specs.Steps.{all_flow, all_working, assignment_write, label_of, compute as compute_step, flows_judged, form_judged, operation_judged, roles_judged, step_judged, step_writes, target_judged};
 
-use crate::inside::{Inside, check, house_of};
+use crate::inside::{Inside, house_of};
 use agreement::{Joined, Role};
 use machine::{Operation, StepFault, Values, result_of};
 use order::Order;
-use refusal::Side;
+use refusal::{Side, check};
 use script::Assignment;
 
-// Loops over assignments go over the lent list with its places, in the checks and in the execution.
+// Loops over assignments go over the lent list with its places, in checks and in execution: a rule of the project.
 
 // The most assignments of a compute.
 const MOST_ASSIGNMENTS: usize = 8;

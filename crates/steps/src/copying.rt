@@ -3,11 +3,11 @@ ghost use Rattle.agreement.specs.Agreements.{joined};
 ghost use Rattle.machine.specs.Places.{place, written};
 ghost use Rattle.machine.specs.Steps.{copy_judged, copy_write, move, step_judged};
 
-use crate::inside::{check, house_of};
+use crate::inside::house_of;
 use agreement::{Joined, Role};
 use machine::{StepFault, Values};
 use order::Order;
-use refusal::Side;
+use refusal::{Side, check};
 
 // The roles of the items of a copy inside a house: a fetch and a store differ in nothing else.
 #[derive(Clone, Copy)]

@@ -1,5 +1,4 @@
 ghost use Rattle.std.specs.Prelude.{◌≡◌};
-ghost use Rattle.refusal.specs.Judging.{check};
 ghost use Rattle.agreement.specs.Agreements.{joined};
 ghost use Rattle.machine.specs.Steps.{item_judged, label_of, serves};
 
@@ -7,7 +6,7 @@ use agreement::{Item, Joined, Role};
 use either::Either;
 use machine::StepFault;
 use order::Order;
-use refusal::Side;
+use refusal::{Side, check};
 
 // One of the joined houses as the steps inside it see it.
 #[derive(Clone, Copy)]
@@ -62,13 +61,6 @@ impl<'a, O: Order> Inside<'a, O> {
     {
         self.order.flows(self.label_of(item), label)
     }
-}
-
-// Refuses with the fault unless the test holds.
-pub(crate) fn check(holds: bool, fault: StepFault) -> Result<(), StepFault>
-    ensures { result ≡ check holds fault }
-{
-    if holds { Ok(()) } else { Err(fault) }
 }
 
 // Whether a role, which may be handed in as any number, is the one that is needed.

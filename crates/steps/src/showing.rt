@@ -4,11 +4,11 @@ ghost use Rattle.machine.specs.Calls.{if_accepted};
 ghost use Rattle.machine.specs.Places.{held, place};
 ghost use Rattle.machine.specs.Steps.{show_judged};
 
-use crate::inside::{check, house_of};
+use crate::inside::house_of;
 use agreement::Joined;
 use machine::{StepFault, Values};
 use order::Order;
-use refusal::Side;
+use refusal::{Side, check};
 
 fn judge_show<N: Order, F: Order>(
     houses: &Joined<'_, N, F>,

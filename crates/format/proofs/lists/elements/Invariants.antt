@@ -1,7 +1,7 @@
 use Rattle.std.proofs.Common.{◌≡◌, take}
 use Rattle.bits.specs.Bits.{all_bits}
 use Rattle.format.proofs.Loops.{Left}
-use Rattle.format.proofs.lists.list.Given as goal
+use Rattle.format.proofs.lists.elements.Given as goal
 
 abbrev pub invariant-loop-place : goal.invariant-loop-place
 invariant-loop-place g l =

@@ -2,7 +2,7 @@ use Rattle.std.proofs.Common.{length, take, replicate, sym, ap, ◌∙◌, arith
 use Rattle.bits.specs.Bits.{all_bits}
 use Rattle.format.specs.Formats.{under}
 use Rattle.format.proofs.Loops.{left_stored, stored}
-use Rattle.format.proofs.lists.list.Goals as goal
+use Rattle.format.proofs.lists.elements.Goals as goal
 
 pub loop-place-preserved : goal.loop-place-preserved
 loop-place-preserved g c =
