@@ -3,7 +3,7 @@ ghost use Rattle.verdict.specs.Opening.{Opens};
 
 use crate::fault::JudgeFault;
 use crate::opened::Opened;
-use session::Session;
+use session::{Returned, Session};
 use sheet::open_houses;
 
 // Reads a whole sheet, makes the near house, then the far house, and certifies the agreement in a session between them.
@@ -13,12 +13,13 @@ pub fn open_sheet(bytes: &[u8]) -> Result<Opened, JudgeFault>
     let houses = open_houses(bytes)?;
     let sheet = houses.sheet;
     let (mut session, draft) = Session::new(houses.near, houses.far);
-    let pass = session
-        .certify(draft, &sheet.parts.agreement())
-        .map_err(|back| JudgeFault::Call(back.fault))?;
-    Ok(Opened {
-        session,
-        pass,
-        script: sheet.script,
-    })
+    // A match, since the proof over `map_err` did not close.
+    match session.certify(draft, &sheet.parts.agreement()) {
+        Ok(pass) => Ok(Opened {
+            session,
+            pass,
+            script: sheet.script,
+        }),
+        Err(Returned { pass: _, fault }) => Err(JudgeFault::Call(fault)),
+    }
 }
