@@ -44,7 +44,9 @@ pub fn refuse(fault: CallFault) -> Answer {
 }
 
 // What a call is answered with, told so where it is accepted.
-fn answer_of<T, F: FnOnce(T) -> Answer>(res: Result<T, CallFault>, told: F) -> Answer {
+fn answer_of<T, F: FnOnce(T) -> Answer>(res: Result<T, CallFault>, told: F) -> Answer
+    requires { F.IsAlwaysCallable told }
+{
     match res {
         Ok(value) => told(value),
         Err(fault) => refuse(fault),
