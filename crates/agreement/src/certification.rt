@@ -1,13 +1,14 @@
-ghost use Rattle.std.specs.Prelude.{◌≡◌, is_ok, IfErr, Decides};
+ghost use Rattle.std.specs.Prelude.{◌≡◌, [], is_ok, IfErr, Decides};
 ghost use Rattle.refusal.specs.Judging.{◌⨟◌, under};
 ghost use Rattle.refusal.specs.declared.Side.TheVariants.{Near, Far};
-ghost use Rattle.agreement.specs.Agreements.{joined};
+ghost use Rattle.agreement.specs.Agreements.{joint, joined};
 ghost use Rattle.agreement.specs.Certified.{certified, rule_judged, rules, on, FirstBroken, Holds};
 
 use crate::fault::{Broken, Fault};
 use crate::item::Item;
 use crate::joined::Joined;
 use crate::rule::Rule;
+use crate::trip::RoundTrip;
 use order::Order;
 use refusal::Side;
 
@@ -20,18 +21,48 @@ pub struct Agreement<'a> {
     pub far_items: &'a [Item],
 }
 
+impl<'a, P: Order + Copy, Q: Order + Copy> RoundTrip<'a, P, Q> {
+    // One rule on the way across and home, with the items of the house that it begins in.
+    fn keeps(&self, rule: Rule, items: &[Item]) -> Result<(), Broken>
+        ensures { result ≡ rule_judged (joint (P.Order.meaning self.now.from) (Q.Order.meaning self.now.to) self.now.out.now self.now.back.now items.now []) rule Near }
+    {
+        match rule {
+            Rule::Totality => self.across().total(),
+            Rule::Monotony => self.across().monotone(),
+            Rule::Rise => self.rising(),
+            Rule::Stability => self.stable(),
+            Rule::Lawfulness => self.lawful(items),
+        }
+    }
+}
+
 impl<'a, N: Order, F: Order> Joined<'a, N, F> {
-    // One rule on one side.
+    // One rule on one side. By a match, so that the loops of the rules go over the orders themselves: over either of two
+    // they take half as long again.
     fn keeps(&self, rule: Rule, side: Side) -> Result<(), Broken>
         ensures { result ≡ rule_judged (joined N.Order.meaning F.Order.meaning self.now) rule side }
     {
-        let trip = self.trip(side);
-        match rule {
-            Rule::Totality => trip.across().total(),
-            Rule::Monotony => trip.across().monotone(),
-            Rule::Rise => trip.rising(),
-            Rule::Stability => trip.stable(),
-            Rule::Lawfulness => trip.lawful(self.items(side)),
+        let Agreement {
+            out,
+            back,
+            near_items,
+            far_items,
+        } = self.agreement;
+        match side {
+            Side::Near => RoundTrip {
+                from: self.near,
+                to: self.far,
+                out,
+                back,
+            }
+            .keeps(rule, near_items),
+            Side::Far => RoundTrip {
+                from: self.far,
+                to: self.near,
+                out: back,
+                back: out,
+            }
+            .keeps(rule, far_items),
         }
     }
 

@@ -22,11 +22,12 @@ impl<'a, P: Order, Q: Order> LabelMap<'a, P, Q> {
         if label >= self.from.count() {
             return None;
         }
-        let known = self.to.count();
-        self.images
-            .get(label as usize)
-            .copied()
-            .filter(|entry| *entry < known)
+        let entry = self.images.get(label as usize).copied()?;
+        if entry < self.to.count() {
+            Some(entry)
+        } else {
+            None
+        }
     }
 
     // Whether the image of the source label flows to the target label. In a connection, to a settled target, whether the source is in the target's view.
@@ -59,13 +60,15 @@ impl<'a, P: Order, Q: Order> LabelMap<'a, P, Q> {
         Ok(())
     }
 
-    fn keeps_pair(&self, a: u64, b: u64) -> bool
+    // Whether the map keeps the order of a and b; the image of a is handed in, since it is the same for every b.
+    fn keeps_pair(&self, a: u64, image: Option<u64>, b: u64) -> bool
+        requires { image ≡ image_of (P.Order.meaning self.now.from) (Q.Order.meaning self.now.to) self.now.images.now a }
         ensures { result ≡ keeps (P.Order.meaning self.now.from) (Q.Order.meaning self.now.to) self.now.images.now a b }
     {
         if !self.from.flows(a, b) {
             return true;
         }
-        match (self.image(a), self.image(b)) {
+        match (image, self.image(b)) {
             (Some(x), Some(y)) => self.to.flows(x, y),
             _ => false,
         }
@@ -79,8 +82,9 @@ impl<'a, P: Order, Q: Order> LabelMap<'a, P, Q> {
         let count = self.from.count();
         let mut judged = Ok(());
         'pairs: for a in 0..count {
+            let image = self.image(a);
             for b in 0..count {
-                if !self.keeps_pair(a, b) {
+                if !self.keeps_pair(a, image, b) {
                     judged = Err(Broken::NotMonotone { a, b });
                     break 'pairs;
                 }

@@ -78,12 +78,15 @@ impl<'a, P: Order + Copy, Q: Order + Copy> RoundTrip<'a, P, Q> {
     fn stays_at(&self, label: u64) -> bool
         ensures { result ≡ stays (P.Order.meaning self.now.from) (Q.Order.meaning self.now.to) self.now.out.now self.now.back.now label }
     {
-        // No `is_some_and`: tried, and the proof over a closure that asks for two images did not close.
-        let Some(again) = self.again(label) else {
+        // No `is_some_and`: tried, and the proof over a closure that asks for another image did not close.
+        let (map, home) = (self.across(), self.home());
+        let Some(across) = map.image(label) else {
             return false;
         };
-        let map = self.across();
-        map.image(again) == map.image(label)
+        let Some(again) = home.image(across) else {
+            return false;
+        };
+        map.image(again) == Some(across)
     }
 
     // Going across, back and across again is going across. One text for this and `rising` is no plainer: it takes two closures, each with a contract.
