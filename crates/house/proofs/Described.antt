@@ -17,14 +17,14 @@ use Rattle.house.specs.declared.description.House.TheVariants.{Listed}
 
 module _ (rows : FixedList ℕ 32) (few : rows.count ≤ 32) where
   -- a house of not too many rows is judged by them
-  judged_rows : house_judged (Listed rows) ≡ rows_judged (list_of rows)
+  pub judged_rows : house_judged (Listed rows) ≡ rows_judged (list_of rows)
   judged_rows = then_at (rows_judged (list_of rows)) (check_at Rows (le-leb rows.count 32 few))
 
   pub decides_rows : (b : Bool) → Decides b (LatticeRows (list_of rows)) → Decides b (IsHouse (Listed rows))
   decides_rows b d = Decides-like b (λ l. (few, l)) (λ h. h.1) d
 
   -- a table that holds the rows means the house
-  held_means : length rows.places ≡ 32 → (t : Table) → Holds (list_of rows) t.table.rows.count t.table.rows.places → Means (listed.meaning t) (Listed rows)
+  pub held_means : length rows.places ≡ 32 → (t : Table) → Holds (list_of rows) t.table.rows.count t.table.rows.places → Means (listed.meaning t) (Listed rows)
   held_means enough t h =
       let counted : length (list_of rows) ≡ rows.count = omega (arith, length-take rows.count rows.places) in
       record {

@@ -1,6 +1,6 @@
 -- Greatest lower labels of lists that grow at the end. Assumes nothing.
 use Rattle.std.proofs.Common.{◌≡◌, ℕ, ◌+◌, ◌<◌, List, [], ◌∷◌, ◌++◌, map, length, get_or, take, Some, None, Option, MatchOption, sym, refl, ap, ◌∙◌, subst}
-use Rattle.std.proofs.lemmas.List.{append_assoc, map_more}
+use Rattle.std.proofs.lemmas.List.{append-nil, append_assoc, map_more}
 use Rattle.std.proofs.lemmas.Option.{MatchOption-at_some, MatchOption-at_none}
 use Rattle.refusal.specs.declared.Side.{Side}
 use Rattle.refusal.specs.declared.Side.TheVariants.{Near, Far}
@@ -38,6 +38,9 @@ module _ (P : PartialOrder) where
       two : (o : Option ℕ) → Joined (dual P) (b ∷ y ∷ []) o → Supremum (dual P) ls b → Joined (dual P) (ls ++ y ∷ []) o
       two None unknown s = λ all. unknown (s.known, (known_last (dual P) ls y all, tt))
       two (Some c) t s = supremum_push (dual P) ls b y c s t
+
+  pub lowers_none : (b : Option ℕ) → Lowers P [] b b
+  lowers_none b ls j = subst (λ (l : List ℕ). Joined (dual P) l b) (sym (append-nil ls)) j
 
   pub lowers_then : (xs ys : List ℕ) (a b c : Option ℕ) → Lowers P xs a b → Lowers P ys b c → Lowers P (xs ++ ys) a c
   lowers_then xs ys a b c f g ls j = subst (λ (l : List ℕ). Joined (dual P) l c) (append_assoc ls xs ys) (g (ls ++ xs) (f ls j))
