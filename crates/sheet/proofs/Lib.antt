@@ -3,3 +3,4 @@ pub mod Laws
 pub mod Padding
 pub mod Steps
 pub mod Alone
+pub mod Unhoused

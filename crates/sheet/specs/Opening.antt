@@ -54,6 +54,13 @@ HousesJudgedSo parts (House Near f) = house_judged parts.near ≡ Err f
 HousesJudgedSo parts (House Far f) = (house_judged parts.near ≡ accepted) × (house_judged parts.far ≡ Err f)
 HousesJudgedSo parts (Agreement f) = ⊥
 
+-- r is the lattices of both houses, or why they are not made
+abbrev pub BothMade : (Table → PartialOrder) → Parts → Result (Table × Table) SheetFault → Type 0
+BothMade meaning parts r =
+    MatchResult r
+    (λ t. (house_judged parts.near ≡ accepted) × (house_judged parts.far ≡ accepted) × Means (meaning t.0) parts.near × Means (meaning t.1) parts.far)
+    (HousesJudgedSo parts)
+
 -- why a sheet that was read is not opened: its near house, its far house, or its agreement
 abbrev pub JudgedSo : Parts → SheetFault → Type 0
 JudgedSo parts TooLong = ⊥
@@ -73,9 +80,14 @@ RefusedFor bytes e = ReadsSheet bytes (Err e) ⊎ ((s : Sheet) × ReadsSheet byt
 abbrev pub Opens : (Table → PartialOrder) → List ℕ → Result Opened SheetFault → Type 0
 Opens meaning bytes r = MatchResult r (OpenedBy meaning bytes) (RefusedFor bytes)
 
--- the same before the agreement is looked at
+-- the same before the agreement is looked at: it cannot be read, or it was read and a house of it is not made
 abbrev pub UnhousedFor : List ℕ → SheetFault → Type 0
-UnhousedFor bytes e = ReadsSheet bytes (Err e) ⊎ ((s : Sheet) × ReadsSheet bytes (Ok s) × HousesJudgedSo s.parts e)
+UnhousedFor bytes TooLong = ReadsSheet bytes (Err TooLong)
+UnhousedFor bytes (Field e) = ReadsSheet bytes (Err (Field e))
+UnhousedFor bytes (Script e) = ReadsSheet bytes (Err (Script e))
+UnhousedFor bytes (Trailing at) = ReadsSheet bytes (Err (Trailing at))
+UnhousedFor bytes (House side f) = (s : Sheet) × ReadsSheet bytes (Ok s) × HousesJudgedSo s.parts (House side f)
+UnhousedFor bytes (Agreement f) = ⊥
 
 abbrev pub OpensHouses : (Table → PartialOrder) → List ℕ → Result Opened SheetFault → Type 0
 OpensHouses meaning bytes r = MatchResult r (λ o. HousesStand bytes (meaning o.near) (meaning o.far) o.sheet) (UnhousedFor bytes)

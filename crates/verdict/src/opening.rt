@@ -4,15 +4,16 @@ ghost use Rattle.verdict.specs.Opening.{Opens};
 use crate::fault::JudgeFault;
 use crate::opened::Opened;
 use session::{Returned, Session};
-use sheet::open_houses;
+use sheet::read_sheet;
 
 // Reads a whole sheet, makes the near house, then the far house, and certifies the agreement in a session between them.
+#[tactic(auto, using(sheet::proofs::Unhoused::unread, sheet::proofs::Unhoused::unhoused))]
 pub fn open_sheet(bytes: &[u8]) -> Result<Opened, JudgeFault>
     ensures { Opens ordered.meaning bytes.now result }
 {
-    let houses = open_houses(bytes)?;
-    let sheet = houses.sheet;
-    let (mut session, draft) = Session::new(houses.near, houses.far);
+    let sheet = read_sheet(bytes)?;
+    let (near, far) = sheet.parts.lattices()?;
+    let (mut session, draft) = Session::new(near, far);
     // A match, since the proof over `map_err` did not close.
     match session.certify(draft, &sheet.parts.agreement()) {
         Ok(pass) => Ok(Opened {

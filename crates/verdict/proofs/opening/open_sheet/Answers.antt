@@ -16,16 +16,23 @@ use Rattle.verdict.proofs.opening.open_sheet.Goals as goal
 use Rattle.verdict.proofs.opening.open_sheet.Goals.{After-certify, at-returns-in-Err, at-returns-in-Ok}
 
 -- what is handed to the session
-offered : (c : After-certify) → Offered ordered.meaning c.args.bytes.now c.new.result.0 c.agreement.result c.in_ok-houses.houses.sheet
+offered : (c : After-certify) → Offered ordered.meaning c.args.bytes.now c.new.result.0 c.agreement.result c.in_ok-sheet.sheet
 offered c =
-    let sheet = c.in_ok-houses.houses.sheet in
+    let sheet = c.in_ok-sheet.sheet in
     let fresh = c.new.result.0 in
     let N = ordered.meaning fresh.near in
     let F = ordered.meaning fresh.far in
     let a = c.agreement.result in
     let lent = c.agreement.ensures in
     record {
-      houses = subst (λ (x : Session Table Table). HousesStand c.args.bytes.now (ordered.meaning x.near) (ordered.meaning x.far) sheet) (sym c.new.ensures) c.in_ok-houses.ensures;
+      houses = subst (λ (x : Session Table Table). HousesStand c.args.bytes.now (ordered.meaning x.near) (ordered.meaning x.far) sheet) (sym c.new.ensures)
+          (record {
+            read = c.in_ok-sheet.ensures.value;
+            near_lawful = c.in_ok-near.ensures.0;
+            far_lawful = c.in_ok-near.ensures.1;
+            near = c.in_ok-near.ensures.2;
+            far = c.in_ok-near.ensures.3;
+          });
       same = handed_on N F sheet.parts a lent.out lent.back lent.near_items lent.far_items;
       at_draft = ap (λ (x : Session Table Table). certify_judged x.stage (agreed N F a)) c.new.ensures;
     }
@@ -33,7 +40,7 @@ offered c =
 pub returns-in-Ok : goal.returns-in-Ok
 returns-in-Ok c =
     let bytes = c.args.bytes.now in
-    let sheet = c.in_ok-houses.houses.sheet in
+    let sheet = c.in_ok-sheet.sheet in
     let fresh = c.new.result.0 in
     let a = c.agreement.result in
     let got = c.in-Ok.ensures in
@@ -59,5 +66,5 @@ returns-in-Err c =
     let N = ordered.meaning fresh.near in
     let F = ordered.meaning fresh.far in
     let offer = offered (at-returns-in-Err c).After-certify in
-    agreement_refused c.args.bytes.now N F c.in_ok-houses.houses.sheet (certified (agreed N F c.agreement.result)) c.in-Err.field-0.fault offer.houses
+    agreement_refused c.args.bytes.now N F c.in_ok-sheet.sheet (certified (agreed N F c.agreement.result)) c.in-Err.field-0.fault offer.houses
     (ap certified (sym offer.same)) (sym offer.at_draft ∙ c.in-Err.ensures.answer)
