@@ -6,14 +6,15 @@ use crate::fault::FieldFault;
 use bits::Reader;
 use fixed::FixedList;
 
-// What reads one element of a list. Where it refuses, the reader may stand anywhere: `list` puts it back.
+// What reads one element of a list. Where it refuses, the reader stays as it was.
 pub trait Element {
     type Value: Copy;
 
     ghost reading: { Self → List Bool → ℕ → Reading FieldFault Self.Value };
 
     fn read(&self, reader: &mut Reader<'_>) -> Result<Self::Value, FieldFault>
-        ensures { ReadsBy (reading self.now) reader.old result reader.new };
+        ensures reads { ReadsBy (reading self.now) reader.old result reader.new }
+        ensures stays { OnErr result (reader.new ≡ reader.old) };
 }
 
 fn elements<E: Element, const N: usize>(

@@ -19,7 +19,39 @@ fn item(reader: &mut Reader<'_>) -> Result<u64, FieldFault>
     field(reader, 7, 0, 127)
 }
 
-// An assignment: 3 bits operation, 7 bits target, and a constant or one or two operands.
+// 3 bits operation, 7 bits target, and a constant or one or two operands.
+#[tactic(auto, unfolding(crate::specs::Scripts::assignment))]
+fn assignment(reader: &mut Reader<'_>) -> Result<Assignment, FieldFault>
+    ensures { Reads assignment_format reader.old result reader.new }
+{
+    let operation = field(reader, 3, 0, 5)?;
+    let target = item(reader)?;
+    let begun = Assignment {
+        operation,
+        target,
+        ..Assignment::BLANK
+    };
+    match Operation::try_from(operation) {
+        Ok(Operation::Put) => Ok(Assignment {
+            constant: field(reader, 64, 0, u64::MAX)?,
+            ..begun
+        }),
+        Ok(Operation::Copy) => Ok(Assignment {
+            left: item(reader)?,
+            ..begun
+        }),
+        Ok(Operation::Sum | Operation::Difference | Operation::Smaller | Operation::Larger) => {
+            Ok(Assignment {
+                left: item(reader)?,
+                right: item(reader)?,
+                ..begun
+            })
+        }
+        Err(_) => unreachable!(),
+    }
+}
+
+// An assignment of a compute.
 struct AssignmentField;
 
 impl Element for AssignmentField {
@@ -27,33 +59,11 @@ impl Element for AssignmentField {
 
     ghost reading = { λ _. read assignment_format };
 
-    #[tactic(auto, unfolding(crate::specs::Scripts::assignment))]
     fn read(&self, reader: &mut Reader<'_>) -> Result<Assignment, FieldFault> {
-        let operation = field(reader, 3, 0, 5)?;
-        let target = item(reader)?;
-        let begun = Assignment {
-            operation,
-            target,
-            ..Assignment::BLANK
-        };
-        match Operation::try_from(operation) {
-            Ok(Operation::Put) => Ok(Assignment {
-                constant: field(reader, 64, 0, u64::MAX)?,
-                ..begun
-            }),
-            Ok(Operation::Copy) => Ok(Assignment {
-                left: item(reader)?,
-                ..begun
-            }),
-            Ok(Operation::Sum | Operation::Difference | Operation::Smaller | Operation::Larger) => {
-                Ok(Assignment {
-                    left: item(reader)?,
-                    right: item(reader)?,
-                    ..begun
-                })
-            }
-            Err(_) => unreachable!(),
-        }
+        let mut ahead = *reader;
+        let assignment = assignment(&mut ahead)?;
+        *reader = ahead;
+        Ok(assignment)
     }
 }
 

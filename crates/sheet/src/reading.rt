@@ -112,8 +112,10 @@ impl Element for ItemField {
 
     #[tactic(auto, unfolding(crate::specs::Sheets::item))]
     fn read(&self, reader: &mut Reader<'_>) -> Result<Item, FieldFault> {
-        let role = field(reader, 2, 0, 3)?;
-        let label = field(reader, 6, 0, 63)?;
+        let mut ahead = *reader;
+        let role = field(&mut ahead, 2, 0, 3)?;
+        let label = field(&mut ahead, 6, 0, 63)?;
+        *reader = ahead;
         Ok(Item { role, label })
     }
 }

@@ -8,7 +8,7 @@ pub loop-place-preserved : goal.loop-place-preserved
 loop-place-preserved g c =
     let one = g.E.Element.reading c.args.element.now in
     let same = c.loop-place.invariant.0 in
-    let got = c.in_ok-place.ensures in
+    let got = c.in_ok-place.ensures.reads in
     let n = length (take c.min-count.result (replicate g.row.N c.args.blank)) in (
       got.bytes ∙ same,
       left_stored (λ i e. e) (one (all_bits c.args.reader.now.bytes.now)) n c.args.reader.now.at c.loop-place.place-index c.loop-place.reader.at
