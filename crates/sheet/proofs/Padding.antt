@@ -22,7 +22,7 @@ module _ (bytes : List ℕ) (at rest : ℕ) (left : rest ≡ length bytes * 8 - 
   unfolding field_read
   answered = cond-true (leb rest (length (all_bits bytes) - at)) (Ok (number (piece (all_bits bytes) at rest) % 2 ^ 64, at + rest)) (Err (record { at = at })) (le-leb rest (length (all_bits bytes) - at) (omega (arith, remains)))
 
-  padding_read : (v q : ℕ) → rest < 8 → field_read bytes at rest ≡ Ok (v, q) → eqb v 0 ≡ only_padding (all_bits bytes) at
+  pub padding_read : (v q : ℕ) → rest < 8 → field_read bytes at rest ≡ Ok (v, q) → eqb v 0 ≡ only_padding (all_bits bytes) at
   padding_read v q h e =
       let same : ◌≡◌ {A = ℕ × ℕ} (number (piece (all_bits bytes) at rest) % 2 ^ 64, at + rest) (v, q) = cc (answered) in
       let small : number (piece (all_bits bytes) at rest) < 2 ^ 64 =
@@ -32,7 +32,7 @@ module _ (bytes : List ℕ) (at rest : ℕ) (left : rest ≡ length bytes * 8 - 
       ap (λ (x : ℕ). eqb x 0) value
       ∙ sym (ap (λ (t : Bool). t && eqb (number (drop at (all_bits bytes))) 0) (lt-ltb (length (all_bits bytes) - at) 8 (omega (arith, remains))))
 
-  padding_never_lacks : (e : Lacking) → field_read bytes at rest ≡ Err e → false ≡ only_padding (all_bits bytes) at
+  pub padding_never_lacks : (e : Lacking) → field_read bytes at rest ≡ Err e → false ≡ only_padding (all_bits bytes) at
   padding_never_lacks e h = let z : ◌≡◌ {A = ℕ} 0 1 = cc (answered, h) in absurd (omega arith)
 
   -- what is left was read, and of b it is known what the value says
