@@ -5,9 +5,9 @@ ghost use Rattle.script.specs.Lines.{blank};
 ghost use Rattle.machine.specs.Calls.{after, step};
 ghost use Rattle.machine.specs.Operations.{operands};
 ghost use Rattle.machine.specs.Places.{all_written, written};
-ghost use Rattle.machine.specs.Steps.{all_flow, all_working, assignment_write, label_of, compute as compute_step, flows_judged, form_judged, operation_judged, roles_judged, step_judged, step_writes, target_judged};
+ghost use Rattle.machine.specs.Steps.{all_flow, all_working, assignment_write, label_of, compute as compute_step, compute_judged, flows_judged, form_judged, operation_judged, roles_judged, step_judged, step_writes, target_judged};
 
-use crate::inside::{Inside, house_of};
+use crate::inside::Inside;
 use agreement::{Joined, Role};
 use machine::{Operation, StepFault, Values, result_of};
 use order::Order;
@@ -113,8 +113,18 @@ impl<'a, O: Order> Inside<'a, O> {
         }
         Ok(())
     }
+
+    // The assignments as a compute in this house.
+    fn judge(&self, assignments: &[Assignment]) -> Result<(), StepFault>
+        ensures { result ≡ compute_judged (O.Order.meaning self.now.order) self.now.side self.now.items.now assignments.now }
+    {
+        well_formed(self.side, assignments)?;
+        self.all_working(assignments)?;
+        self.flows_allowed(assignments)
+    }
 }
 
+// By a match, so that the loops over the assignments go over the order itself, which is faster.
 pub(crate) fn judge_compute<N: Order, F: Order>(
     houses: &Joined<'_, N, F>,
     side: Side,
@@ -122,10 +132,21 @@ pub(crate) fn judge_compute<N: Order, F: Order>(
 ) -> Result<(), StepFault>
     ensures { result ≡ step_judged (joined N.Order.meaning F.Order.meaning houses.now) (compute_step side assignments.now) }
 {
-    let house = house_of(houses, side);
-    well_formed(side, assignments)?;
-    house.all_working(assignments)?;
-    house.flows_allowed(assignments)
+    let agreement = houses.agreement;
+    match side {
+        Side::Near => Inside {
+            order: houses.near,
+            side,
+            items: agreement.near_items,
+        }
+        .judge(assignments),
+        Side::Far => Inside {
+            order: houses.far,
+            side,
+            items: agreement.far_items,
+        }
+        .judge(assignments),
+    }
 }
 
 fn assign(values: &mut Values, side: Side, assignment: &Assignment)
